@@ -1,0 +1,3 @@
+-- What contracts speak of: objects, counts and lists as plain records, a file for each subject.
+pub mod Names
+pub mod Hostnames

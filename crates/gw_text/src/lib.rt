@@ -1,0 +1,14 @@
+// Texts, names, keys, hostnames and moments, and the definitions of objects, counts and
+// lists that the contracts of every crate above speak of.
+#![tactic(auto)]
+
+mod host;
+mod key;
+mod second;
+mod text;
+
+pub use host::Host;
+pub use key::Key;
+pub use second::Second;
+pub use std::alloc::AllocError as NoMemory;
+pub use text::Text;
