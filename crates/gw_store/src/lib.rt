@@ -1,0 +1,6 @@
+// The objects that are held, kind by kind, and the lines that change them.
+#![tactic(auto)]
+
+mod table;
+
+pub use table::{Keyed, Table};

@@ -1,0 +1,109 @@
+ghost use Rattle.std.specs.Prelude.{◌≡◌, ℕ, ◌+◌, ◌-◌, ◌<◌, ◌≤◌, List, [], length, map, OnOk, OnErr, MatchResult, option_map, option_copied};
+ghost use Rattle.std.specs.List.Sorted.{IsSearchInRange};
+ghost use Rattle.gw_text.specs.model.Held.{put, held_of, key_order, IsInKeyOrder};
+ghost use Rattle.gw_store.specs.Table.{StandsAt, IsMissingAt};
+
+use gw_text::{NoMemory, Second};
+use std::alloc::{AllocError, Global};
+use std::cmp::Ordering;
+use std::marker::Model;
+
+/// An object with a key, in whose order it is held.
+pub trait Keyed {
+    ghost key: { Self → List ℕ };
+
+    fn key(&self) -> &[u8]
+        ensures { result.now ≡ key self.now };
+}
+
+/// The objects of one kind in key order, each with the moment at which its key was first put.
+#[derive(Drop)]
+pub struct Table<T: Keyed + Drop> {
+    objects: Vec<T>,
+    firsts: Vec<Second>,
+}
+
+impl<T: Keyed + Drop> Model for Table<T> {
+    ghost use Rattle.std.specs.Prelude.{◌≡◌, ◌-◌, length, min, vec_len, vec_capacity};
+    ghost use Rattle.gw_text.specs.model.Held.{IsInKeyOrder};
+    ghost use Rattle.gw_store.specs.Table.{Rows, held};
+
+    ghost Value = { Rows T };
+
+    ghost view = { λ t. record {
+      held = held t.objects.items t.firsts.items;
+      spare = min (vec_capacity t.objects - vec_len t.objects) (vec_capacity t.firsts - vec_len t.firsts);
+    } };
+
+    ghost invariant = { λ t. record {
+      alike : length t.objects.items ≡ length t.firsts.items;
+      ordered : IsInKeyOrder T.key t.objects.items;
+    } };
+}
+
+impl<T: Keyed + Drop> Table<T> {
+    /// Holds nothing.
+    pub fn new(alloc: Global) -> Self
+        ensures { result.held ≡ [] }
+    {
+        Table {
+            objects: Vec::new(alloc),
+            firsts: Vec::new(alloc),
+        }
+    }
+
+    /// Makes room for one object more.
+    pub fn reserve(&mut self) -> Result<(), NoMemory>
+        ensures held { self.new.held ≡ self.old.held }
+        ensures ok { OnOk result (0 < self.new.spare) }
+    {
+        self.objects.reserve(1)?;
+        self.firsts.reserve(1)
+    }
+
+    /// The objects in key order.
+    pub fn objects(&self) -> &[T]
+        ensures { result.now ≡ map (λ h. h.object) self.now.held }
+    {
+        self.objects.as_slice()
+    }
+
+    /// Holds `object` under its key, in place of the one that is held there.
+    pub fn put(&mut self, object: T, now: Second)
+        requires { 0 < self.old.spare }
+        ensures { self.new.held ≡ put T.key object now self.old.held }
+    {
+        match place(self.objects.as_slice(), object.key()) {
+            Ok(at) => self.objects[at] = object,
+            Err(at) => {
+                self.objects.insert(at, object).unwrap();
+                self.firsts.insert(at, now).unwrap();
+            }
+        }
+    }
+
+    /// The object that is held under `key`.
+    pub fn get(&self, key: &[u8]) -> Option<&T>
+        ensures { option_copied result ≡ option_map (λ h. h.object) (held_of T.key key.now self.now.held) }
+    {
+        match place(self.objects.as_slice(), key) {
+            Ok(at) => Some(&self.objects[at]),
+            Err(_) => None,
+        }
+    }
+}
+
+// Where the object of `key` stands, or where it would stand.
+fn place<T: Keyed>(objects: &[T], key: &[u8]) -> Result<usize, usize>
+    requires { IsInKeyOrder T.key objects.now }
+    ensures range { IsSearchInRange result (length objects.now) }
+    ensures place { MatchResult result (StandsAt T.key key.now objects.now) (IsMissingAt T.key key.now objects.now) }
+{
+    objects.binary_search_by(|object| compare(object, key))
+}
+
+fn compare<T: Keyed>(object: &T, key: &[u8]) -> Ordering
+    ensures { result ≡ key_order (T.key object.now) key.now }
+{
+    object.key().cmp(&key)
+}
