@@ -1,5 +1,6 @@
 -- What contracts speak of: objects, counts and lists as plain records, a file for each subject.
 pub mod Names
 pub mod Hostnames
+pub mod Meta
 pub mod Objects
 pub mod Held

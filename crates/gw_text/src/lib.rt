@@ -4,11 +4,13 @@
 
 mod host;
 mod key;
+mod meta;
 mod second;
 mod text;
 
 pub use host::Host;
 pub use key::Key;
+pub use meta::Meta;
 pub use second::Second;
 pub use std::alloc::AllocError as NoMemory;
 pub use text::Text;
