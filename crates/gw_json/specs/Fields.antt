@@ -1,6 +1,10 @@
 -- The fields of an object that was read. A field is a value and its path; what is not as it must be gives a refusal with the path.
 use Rattle.std.specs.Prelude.{ℕ, ◌+◌, ◌&&◌, ◌||◌, Bool, List, [], ◌∷◌, length, nat_le, if◌then◌else◌, Option, Some, None, is_some, Result, Ok, String, string_bytes, ⊤}
 use Rattle.std.specs.declared.alloc.Global.{Global}
+use Rattle.std.specs.Cmp.Lexicographic.{slice_cmp}
+use Rattle.std.specs.List.Sorted.{IsStrictlySortedBy}
+use Rattle.std.specs.Map.{keys_of}
+use Rattle.std.specs.Ordering.{nat_cmp}
 use Rattle.serde_json.specs.Data.{Data, Num, Items, no_items, item, Members, no_members, member}
 use Rattle.serde_json.specs.Find.{get, as_null, as_bool, as_number, as_str, as_array, as_object, as_u64, as_i64}
 use Rattle.serde_json.specs.Events.{items_len, members_len}
@@ -97,3 +101,7 @@ unfoldable pub members_of : Place → Result (List (List ℕ × Place)) Refusal
 members_of at = do
   members ← or (WrongType at.path) (as_object at.value)
   Ok (named_from at.path members)
+
+-- The names ascend byte by byte, each once.
+abbrev pub IsInByteOrder : List (List ℕ × Place) → Type 0
+IsInByteOrder members = IsStrictlySortedBy (slice_cmp nat_cmp) (keys_of members)

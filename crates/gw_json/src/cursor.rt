@@ -1,8 +1,10 @@
 //! A place in a value that was read, and the fields below it.
-ghost use Rattle.std.specs.Prelude.{◌≡◌, [], map, option_map, string_bytes, Ok, IfOk};
+ghost use Rattle.std.specs.Prelude.{◌≡◌, ◌≤◌, [], map, option_map, string_bytes, string_cmp, Ok, IfOk};
+ghost use Rattle.std.specs.List.Sorted.{IsStrictlySortedBy};
+ghost use Rattle.std.specs.Map.{keys_of};
 ghost use Rattle.serde_json.specs.View.{view, items_view, members_view};
 ghost use Rattle.gw_json.specs.Words.{Gives};
-ghost use Rattle.gw_json.specs.Fields.{Place, place_of, object_of, count_of, field_of, need_of, items_of, text_of, number_of, truth_of, members_of, named_place, places_from, named_from};
+ghost use Rattle.gw_json.specs.Fields.{Place, place_of, object_of, count_of, field_of, need_of, items_of, text_of, number_of, truth_of, members_of, named_place, places_from, named_from, IsInByteOrder};
 
 use crate::refusal::{Path, Refusal};
 use serde_json::{Map, Value};
@@ -92,7 +94,8 @@ impl<'v> Cursor<'v> {
     /// The whole number, from `least` to `most`.
     #[tactic(auto, unfolding(crate::specs::Fields::number_of))]
     pub fn number(&self, alloc: Global, least: u64, most: u64) -> Result<u64, Refusal>
-        ensures { Gives (λ n. n) result (number_of least most (place_of self.now)) }
+        ensures reads { Gives (λ n. n) result (number_of least most (place_of self.now)) }
+        ensures within { IfOk result (λ n. (least ≤ n) × (n ≤ most)) }
     {
         let Some(number) = self.value.as_number() else {
             return Err(self.wrong_type(alloc)?);
@@ -131,9 +134,10 @@ impl<'v> Cursor<'v> {
     }
 
     /// The members of the object in the byte order of their names, those with a null value included.
-    #[tactic(auto, unfolding(crate::specs::Fields::members_of))]
+    #[tactic(auto, using(crate::proofs::Names::names_ascend), unfolding(crate::specs::Fields::members_of))]
     pub fn members(&self, alloc: Global) -> Result<Vec<(String, Cursor<'v>)>, Refusal>
-        ensures { Gives (λ v. map named_place v.items) result (members_of (place_of self.now)) }
+        ensures reads { Gives (λ v. map named_place v.items) result (members_of (place_of self.now)) }
+        ensures ordered { IfOk result (λ v. IsInByteOrder (map named_place v.items)) }
     {
         match self.value.as_object() {
             Some(members) => Ok(member_cursors(alloc, &self.path, members)?),
@@ -176,7 +180,8 @@ fn member_cursors<'v>(
     path: &Path,
     members: &'v Map<String, Value>,
 ) -> Result<Vec<(String, Cursor<'v>)>, AllocError>
-    ensures { IfOk result (λ v. map named_place v.items ≡ named_from path.now (members_view members.now.entries)) }
+    ensures reads { IfOk result (λ v. map named_place v.items ≡ named_from path.now (members_view members.now.entries)) }
+    ensures ordered { IsStrictlySortedBy string_cmp (keys_of members.now.entries) }
 {
     let mut cursors = Vec::with_capacity(alloc, members.len())?;
     'members: for (name, value) in members.iter() {
