@@ -1,0 +1,4 @@
+pub mod LineLemmas
+pub mod ValueLemmas
+pub mod Floats
+pub mod Names

@@ -1,0 +1,5 @@
+pub mod Fields
+pub mod Lines
+pub mod Paths
+pub mod Refusals
+pub mod Words

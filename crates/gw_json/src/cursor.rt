@@ -1,0 +1,195 @@
+//! A place in a value that was read, and the fields below it.
+ghost use Rattle.std.specs.Prelude.{◌≡◌, ◌≤◌, [], map, option_map, string_bytes, string_cmp, Ok, IfOk};
+ghost use Rattle.std.specs.List.Sorted.{IsStrictlySortedBy};
+ghost use Rattle.std.specs.Map.{keys_of};
+ghost use Rattle.serde_json.specs.View.{view, items_view, members_view};
+ghost use Rattle.gw_json.specs.Words.{Gives};
+ghost use Rattle.gw_json.specs.Fields.{Place, place_of, object_of, count_of, field_of, need_of, items_of, text_of, number_of, truth_of, members_of, named_place, places_from, named_from, IsInByteOrder};
+
+use crate::refusal::{Path, Refusal};
+use serde_json::{Map, Value};
+use std::alloc::{AllocError, Global};
+
+/// A value inside an object that was read, with its path.
+#[derive(Drop)]
+pub struct Cursor<'v> {
+    pub value: &'v Value,
+    pub path: Path,
+}
+
+impl<'v> Cursor<'v> {
+    /// The object as a whole, from which paths are written.
+    pub fn root(alloc: Global, value: &'v Value) -> Result<Cursor<'v>, Refusal>
+        ensures { Gives place_of result (Ok (record { value = view value.now; path = [] })) }
+    {
+        Ok(Cursor {
+            value,
+            path: Path::of(alloc, "")?,
+        })
+    }
+
+    /// Whether the value is an object.
+    #[tactic(auto, unfolding(crate::specs::Fields::object_of))]
+    pub fn object(&self, alloc: Global) -> Result<(), Refusal>
+        ensures { Gives (λ u. u) result (object_of (place_of self.now)) }
+    {
+        if self.value.is_object() {
+            Ok(())
+        } else {
+            Err(self.wrong_type(alloc)?)
+        }
+    }
+
+    /// How many members the object has, those with a null value included.
+    #[tactic(auto, using(crate::proofs::ValueLemmas::members_len_is), unfolding(crate::specs::Fields::count_of))]
+    pub fn member_count(&self, alloc: Global) -> Result<usize, Refusal>
+        ensures { Gives (λ n. n) result (count_of (place_of self.now)) }
+    {
+        match self.value.as_object() {
+            Some(members) => Ok(members.len()),
+            None => Err(self.wrong_type(alloc)?),
+        }
+    }
+
+    /// The field of that name; an absent one and one that is null are alike.
+    #[tactic(auto, unfolding(crate::specs::Fields::object_of, crate::specs::Fields::field_of))]
+    pub fn get(&self, alloc: Global, name: &str) -> Result<Option<Cursor<'v>>, Refusal>
+        ensures { Gives (option_map place_of) result (field_of name.now (place_of self.now)) }
+    {
+        self.object(alloc)?;
+        match self.value.get(name) {
+            Some(value) if !value.is_null() => Ok(Some(Cursor {
+                value,
+                path: self.path.member(alloc, name)?,
+            })),
+            _ => Ok(None),
+        }
+    }
+
+    /// The field of that name, which is Missing where `get` finds none.
+    #[tactic(auto, unfolding(crate::specs::Fields::need_of))]
+    pub fn need(&self, alloc: Global, name: &str) -> Result<Cursor<'v>, Refusal>
+        ensures { Gives place_of result (need_of name.now (place_of self.now)) }
+    {
+        match self.get(alloc, name)? {
+            Some(field) => Ok(field),
+            None => Err(Refusal::Missing(self.path.member(alloc, name)?)),
+        }
+    }
+
+    /// The text, of at most `most` bytes.
+    #[tactic(auto, unfolding(crate::specs::Fields::text_of))]
+    pub fn text(&self, alloc: Global, most: usize) -> Result<String, Refusal>
+        ensures { Gives string_bytes result (text_of most (place_of self.now)) }
+    {
+        let Some(text) = self.value.as_str() else {
+            return Err(self.wrong_type(alloc)?);
+        };
+        if text.len() > most {
+            return Err(self.too_long(alloc)?);
+        }
+        Ok(String::from_str(alloc, text)?)
+    }
+
+    /// The whole number, from `least` to `most`.
+    #[tactic(auto, unfolding(crate::specs::Fields::number_of))]
+    pub fn number(&self, alloc: Global, least: u64, most: u64) -> Result<u64, Refusal>
+        ensures reads { Gives (λ n. n) result (number_of least most (place_of self.now)) }
+        ensures within { IfOk result (λ n. (least ≤ n) × (n ≤ most)) }
+    {
+        let Some(number) = self.value.as_number() else {
+            return Err(self.wrong_type(alloc)?);
+        };
+        if !(number.is_u64() || number.is_i64()) {
+            return Err(self.wrong_type(alloc)?);
+        }
+        match number.as_u64() {
+            Some(whole) if least <= whole && whole <= most => Ok(whole),
+            _ => Err(Refusal::BadValue(self.path.copied(alloc)?)),
+        }
+    }
+
+    #[tactic(auto, unfolding(crate::specs::Fields::truth_of))]
+    pub fn truth(&self, alloc: Global) -> Result<bool, Refusal>
+        ensures { Gives (λ b. b) result (truth_of (place_of self.now)) }
+    {
+        match self.value.as_bool() {
+            Some(truth) => Ok(truth),
+            None => Err(self.wrong_type(alloc)?),
+        }
+    }
+
+    /// The items of the list, of which there are at most `most`.
+    #[tactic(auto, using(crate::proofs::ValueLemmas::items_len_is), unfolding(crate::specs::Fields::items_of))]
+    pub fn items(&self, alloc: Global, most: usize) -> Result<Vec<Cursor<'v>>, Refusal>
+        ensures { Gives (λ v. map place_of v.items) result (items_of most (place_of self.now)) }
+    {
+        let Some(items) = self.value.as_array() else {
+            return Err(self.wrong_type(alloc)?);
+        };
+        if items.len() > most {
+            return Err(self.too_long(alloc)?);
+        }
+        Ok(item_cursors(alloc, &self.path, items.as_slice())?)
+    }
+
+    /// The members of the object in the byte order of their names, those with a null value included.
+    #[tactic(auto, using(crate::proofs::Names::names_ascend), unfolding(crate::specs::Fields::members_of))]
+    pub fn members(&self, alloc: Global) -> Result<Vec<(String, Cursor<'v>)>, Refusal>
+        ensures reads { Gives (λ v. map named_place v.items) result (members_of (place_of self.now)) }
+        ensures ordered { IfOk result (λ v. IsInByteOrder (map named_place v.items)) }
+    {
+        match self.value.as_object() {
+            Some(members) => Ok(member_cursors(alloc, &self.path, members)?),
+            None => Err(self.wrong_type(alloc)?),
+        }
+    }
+
+    fn wrong_type(&self, alloc: Global) -> Result<Refusal, AllocError>
+        ensures { IfOk result (λ e. e ≡ Refusal.WrongType self.now.path) }
+    {
+        Ok(Refusal::WrongType(self.path.copied(alloc)?))
+    }
+
+    fn too_long(&self, alloc: Global) -> Result<Refusal, AllocError>
+        ensures { IfOk result (λ e. e ≡ Refusal.TooLong self.now.path) }
+    {
+        Ok(Refusal::TooLong(self.path.copied(alloc)?))
+    }
+}
+
+fn item_cursors<'v>(
+    alloc: Global,
+    path: &Path,
+    items: &'v [Value],
+) -> Result<Vec<Cursor<'v>>, AllocError>
+    ensures { IfOk result (λ v. map place_of v.items ≡ places_from path.now 0 (items_view items.now)) }
+{
+    let mut cursors = Vec::with_capacity(alloc, items.len())?;
+    'items: for (index, value) in items.iter().enumerate() {
+        cursors.push(Cursor {
+            value,
+            path: path.item(alloc, index)?,
+        })?;
+    }
+    Ok(cursors)
+}
+
+fn member_cursors<'v>(
+    alloc: Global,
+    path: &Path,
+    members: &'v Map<String, Value>,
+) -> Result<Vec<(String, Cursor<'v>)>, AllocError>
+    ensures reads { IfOk result (λ v. map named_place v.items ≡ named_from path.now (members_view members.now.entries)) }
+    ensures ordered { IsStrictlySortedBy string_cmp (keys_of members.now.entries) }
+{
+    let mut cursors = Vec::with_capacity(alloc, members.len())?;
+    'members: for (name, value) in members.iter() {
+        let cursor = Cursor {
+            value,
+            path: path.member(alloc, name.as_str())?,
+        };
+        cursors.push((String::from_str(alloc, name.as_str())?, cursor))?;
+    }
+    Ok(cursors)
+}
