@@ -4,11 +4,13 @@
 
 mod host;
 mod key;
+mod name;
 mod second;
 mod text;
 
 pub use host::Host;
 pub use key::Key;
+pub use name::{Name, TextFault, is_hostname, is_name, is_namespace, is_precise_hostname};
 pub use second::Second;
 pub use std::alloc::AllocError as NoMemory;
 pub use text::Text;
