@@ -1,4 +1,4 @@
-ghost use Rattle.std.specs.Prelude.{◌≡◌, ◌||◌, ℕ, List, Some, None, if◌then◌else◌};
+ghost use Rattle.std.specs.Prelude.{◌≡◌, ◌||◌, ℕ, List, drop, Some, None, is_some, IfSome, if◌then◌else◌};
 ghost use Rattle.std.specs.List.{list_all, slice_split};
 ghost use Rattle.gw_text.specs.Parsing.{Parses};
 ghost use Rattle.gw_text.specs.declared.name.TextFault.TheVariants.{NoMemory as Starved};
@@ -128,19 +128,25 @@ pub fn is_precise_hostname(text: &[u8]) -> bool
     text.len() <= 253 && are_labels(text)
 }
 
-fn is_wildcard(text: &[u8]) -> bool
-    ensures { result ≡ forms.is_wildcard text.now }
+/// What stands after the `*.` of a wildcard, and `None` if the text isn't one.
+pub(crate) fn wildcard_rest(text: &[u8]) -> Option<&[u8]>
+    ensures wildcard { is_some result ≡ forms.is_wildcard text.now }
+    ensures rest { IfSome result (λ rest. rest.now ≡ drop 2 text.now) }
 {
-    text.len() <= 253
-        && match text.strip_prefix(b"*.") {
-            Some(rest) => is_precise_hostname(rest),
-            None => false,
-        }
+    if text.len() > 253 {
+        return None;
+    }
+    let rest = text.strip_prefix(b"*.")?;
+    if is_precise_hostname(rest) {
+        Some(rest)
+    } else {
+        None
+    }
 }
 
 /// Whether the text is a hostname, `*.` in front or not: a Hostname of the Gateway API.
 pub fn is_hostname(text: &[u8]) -> bool
     ensures { result ≡ forms.is_hostname text.now }
 {
-    is_precise_hostname(text) || is_wildcard(text)
+    is_precise_hostname(text) || wildcard_rest(text).is_some()
 }
