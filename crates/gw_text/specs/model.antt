@@ -4,3 +4,5 @@ pub mod Hostnames
 pub mod Meta
 pub mod Objects
 pub mod Held
+pub mod Forms
+pub mod Moments

@@ -5,12 +5,14 @@
 mod host;
 mod key;
 mod meta;
+mod name;
 mod second;
 mod text;
 
 pub use host::Host;
 pub use key::Key;
 pub use meta::Meta;
+pub use name::{Name, TextFault, is_hostname, is_name, is_namespace, is_precise_hostname};
 pub use second::Second;
 pub use std::alloc::AllocError as NoMemory;
 pub use text::Text;

@@ -1,5 +1,6 @@
-ghost use Rattle.std.specs.Prelude.{◌≡◌, ℕ, ◌↔◌, List, IfOk, IfSome, IsSome};
+ghost use Rattle.std.specs.Prelude.{◌≡◌, ℕ, ◌↔◌, List, IfOk, IfSome, IsSome, string_bytes, encode_utf8_all};
 ghost use Rattle.std.specs.Str.{IsUtf8};
+ghost use Rattle.gw_text.specs.model.Forms as forms;
 
 use std::alloc::{AllocError, Global};
 use std::marker::Model;
@@ -32,6 +33,12 @@ impl Text {
         Ok(Text { bytes })
     }
 
+    pub fn from_vec(bytes: Vec<u8>) -> Self
+        ensures { result ≡ bytes.items }
+    {
+        Text { bytes }
+    }
+
     pub fn bytes(&self) -> &[u8]
         ensures { result.now ≡ self.now }
     {
@@ -50,5 +57,27 @@ impl Text {
         ensures { IfOk result (λ text. text ≡ self.now) }
     {
         Text::from_bytes(alloc, self.bytes.as_slice())
+    }
+
+    /// The text as it is printed: as it is in UTF-8, else each byte as the character of its number.
+    #[tactic(auto, using(crate::proofs::Printing::printed_utf8, crate::proofs::Printing::printed_spelled))]
+    pub fn printed(&self, alloc: Global) -> Result<String, AllocError>
+        ensures { IfOk result (λ string. string_bytes string ≡ forms.printed self.now) }
+    {
+        match self.as_str() {
+            Some(text) => String::from_str(alloc, text),
+            None => self.spelled(alloc),
+        }
+    }
+
+    // Each byte as the character of its number.
+    fn spelled(&self, alloc: Global) -> Result<String, AllocError>
+        ensures { IfOk result (λ string. string_bytes string ≡ encode_utf8_all self.now) }
+    {
+        let mut printed = String::new(alloc);
+        'bytes: for byte in self.bytes.as_slice() {
+            printed.push(char::from(*byte))?;
+        }
+        Ok(printed)
     }
 }

@@ -1,0 +1,152 @@
+ghost use Rattle.std.specs.Prelude.{◌≡◌, ◌||◌, ℕ, List, drop, Some, None, is_some, IfSome, if◌then◌else◌};
+ghost use Rattle.std.specs.List.{list_all, slice_split};
+ghost use Rattle.gw_text.specs.Parsing.{Parses};
+ghost use Rattle.gw_text.specs.declared.name.TextFault.TheVariants.{NoMemory as Starved};
+ghost use Rattle.gw_text.specs.model.Forms as forms;
+
+use crate::text::Text;
+use std::alloc::{AllocError, AllocFailed, Global};
+use std::marker::Model;
+
+/// Why a text gave no value.
+#[derive(Clone, Copy, Debug, PartialEq, Eq)]
+pub enum TextFault {
+    /// The text isn't of the form.
+    Bad,
+    NoMemory,
+}
+
+impl From<AllocError> for TextFault {
+    ghost from_gives = { λ _ e. e ≡ Starved };
+
+    fn from(_e: AllocError) -> TextFault {
+        TextFault::NoMemory
+    }
+}
+
+impl<T: Drop> From<AllocFailed<T>> for TextFault {
+    ghost from_gives = { λ _ e. e ≡ Starved };
+
+    fn from(_e: AllocFailed<T>) -> TextFault {
+        TextFault::NoMemory
+    }
+}
+
+/// The name of an object.
+#[derive(Drop)]
+pub struct Name {
+    text: Text,
+}
+
+impl Model for Name {
+    ghost Value = { List ℕ };
+
+    ghost view = { λ n. n.text };
+}
+
+impl Name {
+    pub fn parse(alloc: Global, s: &str) -> Result<Self, TextFault>
+        ensures { Parses (if forms.is_name s.now then Some s.now else None) result }
+    {
+        if !is_name(s.as_bytes()) {
+            return Err(TextFault::Bad);
+        }
+        let text = Text::of(alloc, s)?;
+        Ok(Name { text })
+    }
+
+    pub fn text(&self) -> &Text
+        ensures { result.now ≡ self.now }
+    {
+        &self.text
+    }
+}
+
+fn is_alphanumeric(b: u8) -> bool
+    ensures { result ≡ forms.is_alphanumeric b }
+{
+    b.is_ascii_lowercase() || b.is_ascii_digit()
+}
+
+fn has_alphanumeric_ends(text: &[u8]) -> bool
+    ensures { result ≡ forms.has_alphanumeric_ends text.now }
+{
+    match (text.first(), text.last()) {
+        (Some(first), Some(last)) => is_alphanumeric(*first) && is_alphanumeric(*last),
+        _ => false,
+    }
+}
+
+fn is_label_byte(b: u8) -> bool
+    ensures { result ≡ forms.is_label_byte b }
+{
+    is_alphanumeric(b) || b == b'-'
+}
+
+fn are_name_bytes(text: &[u8]) -> bool
+    ensures { result ≡ list_all (λ b. forms.is_label_byte b || forms.is_dot b) text.now }
+{
+    text.iter().all(|b| is_label_byte(*b) || *b == b'.')
+}
+
+fn are_label_bytes(text: &[u8]) -> bool
+    ensures { result ≡ list_all forms.is_label_byte text.now }
+{
+    text.iter().all(|b| is_label_byte(*b))
+}
+
+/// Whether the text may be the name of an object: an RFC 1123 subdomain.
+pub fn is_name(text: &[u8]) -> bool
+    ensures { result ≡ forms.is_name text.now }
+{
+    text.len() <= 253 && are_name_bytes(text) && has_alphanumeric_ends(text)
+}
+
+fn is_label(text: &[u8]) -> bool
+    ensures { result ≡ forms.is_label text.now }
+{
+    text.len() <= 63 && are_label_bytes(text) && has_alphanumeric_ends(text)
+}
+
+/// Whether the text may be the name of a namespace: an RFC 1123 label.
+pub fn is_namespace(text: &[u8]) -> bool
+    ensures { result ≡ forms.is_namespace text.now }
+{
+    is_label(text)
+}
+
+fn are_labels(text: &[u8]) -> bool
+    ensures { result ≡ list_all forms.is_label (slice_split forms.is_dot text.now) }
+{
+    text.split(|b| *b == b'.').all(is_label)
+}
+
+/// Whether the text is a hostname without a wildcard: a PreciseHostname of the Gateway API.
+pub fn is_precise_hostname(text: &[u8]) -> bool
+    ensures { result ≡ forms.is_precise_hostname text.now }
+{
+    text.len() <= 253 && are_labels(text)
+}
+
+/// What stands after the `*.` of a wildcard, and `None` if the text isn't one.
+pub(crate) fn wildcard_rest(text: &[u8]) -> Option<&[u8]>
+    ensures wildcard { is_some result ≡ forms.is_wildcard text.now }
+    ensures rest { IfSome result (λ rest. rest.now ≡ drop 2 text.now) }
+{
+    if text.len() > 253 {
+        return None;
+    }
+    let rest = text.strip_prefix(b"*.")?;
+    if is_precise_hostname(rest) {
+        Some(rest)
+    } else {
+        None
+    }
+}
+
+/// Whether the text is a hostname, `*.` in front or not: a Hostname of the Gateway API.
+pub fn is_hostname(text: &[u8]) -> bool
+    ensures { result ≡ forms.is_hostname text.now }
+{
+    is_precise_hostname(text) || wildcard_rest(text).is_some()
+}
