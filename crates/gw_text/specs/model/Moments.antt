@@ -1,9 +1,9 @@
 -- Moments, in seconds from 1970-01-01T00:00:00Z, and their text `YYYY-MM-DDTHH:MM:SSZ`. Source: RFC 3339 section 5.6, in
 -- UTC and without fractions of a second. The calendar is the proleptic Gregorian one of jiff_core.
-use Rattle.std.specs.Prelude.{ℕ, zero, suc, ◌+◌, ◌-◌, ◌*◌, ◌/◌, ◌%◌, List, [], ◌∷◌, ◌++◌, Bool, ◌&&◌, ◌==◌, if◌then◌else◌, nat_lt, int_lt, codes, slice_index, Option, Some, None, ℤ, pos, neg_ℤ, ◌+ℤ◌, ◌-ℤ◌, ◌*ℤ◌, unsigned_abs}
+use Rattle.std.specs.Prelude.{ℕ, zero, suc, zip, length, ◌+◌, ◌-◌, ◌*◌, ◌/◌, ◌%◌, List, [], ◌∷◌, ◌++◌, Bool, ◌&&◌, ◌==◌, if◌then◌else◌, nat_lt, int_lt, codes, slice_index, Option, Some, None, ℤ, pos, neg_ℤ, ◌+ℤ◌, ◌-ℤ◌, ◌*ℤ◌, unsigned_abs}
 use Rattle.std.specs.Char.{is_ascii_digit}
 use Rattle.std.specs.Int.{is_in_range}
-use Rattle.std.specs.Cmp.Lexicographic.{pointwise}
+use Rattle.std.specs.List.{list_all}
 use Rattle.jiff_core.specs.Calendar.{days_in_month, days_from_civil}
 
 -- A day of the calendar.
@@ -40,7 +40,7 @@ abbrev pub fits : ℕ → ℕ → Bool
 fits template b = if template == 48 then is_ascii_digit b else (template == b)
 
 abbrev pub has_form : List ℕ → Bool
-has_form t = pointwise fits (codes "0000-00-00T00:00:00Z") t
+has_form t = (length t == 20) && list_all (λ p. fits p.0 p.1) (zip (codes "0000-00-00T00:00:00Z") t)
 
 -- The number that the two digits from a place on spell.
 abbrev pub two_at : List ℕ → ℕ → ℕ
