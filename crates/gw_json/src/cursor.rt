@@ -105,7 +105,7 @@ impl<'v> Cursor<'v> {
         }
         match number.as_u64() {
             Some(whole) if least <= whole && whole <= most => Ok(whole),
-            _ => Err(Refusal::BadValue(self.path.copied(alloc)?)),
+            _ => Err(self.bad_value(alloc)?),
         }
     }
 
@@ -143,6 +143,13 @@ impl<'v> Cursor<'v> {
             Some(members) => Ok(member_cursors(alloc, &self.path, members)?),
             None => Err(self.wrong_type(alloc)?),
         }
+    }
+
+    /// The refusal of a value that isn't of the form that its field wants.
+    pub fn bad_value(&self, alloc: Global) -> Result<Refusal, AllocError>
+        ensures { IfOk result (λ e. e ≡ Refusal.BadValue self.now.path) }
+    {
+        Ok(Refusal::BadValue(self.path.copied(alloc)?))
     }
 
     fn wrong_type(&self, alloc: Global) -> Result<Refusal, AllocError>

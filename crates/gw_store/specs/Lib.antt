@@ -1,1 +1,4 @@
+pub mod Form
+pub mod Seen
 pub mod Table
+pub mod World

@@ -1,6 +1,12 @@
 // The objects that are held, kind by kind, and the lines that change them.
 #![tactic(auto)]
 
+mod form;
+mod plain;
 mod table;
+mod world;
 
+pub use form::read_object;
+pub use plain::{Class, Gateway, Listener, Object, Route};
 pub use table::{Keyed, Table};
+pub use world::World;

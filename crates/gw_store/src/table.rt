@@ -1,6 +1,6 @@
 ghost use Rattle.std.specs.Prelude.{◌≡◌, ℕ, ◌+◌, ◌-◌, ◌<◌, ◌≤◌, List, [], length, map, OnOk, OnErr, MatchResult, option_map, option_copied};
 ghost use Rattle.std.specs.List.Sorted.{IsSearchInRange};
-ghost use Rattle.gw_text.specs.model.Held.{put, held_of, key_order, IsInKeyOrder};
+ghost use Rattle.gw_text.specs.model.Held.{put, held_of, objects, key_order, IsInKeyOrder};
 ghost use Rattle.gw_store.specs.Table.{StandsAt, IsMissingAt};
 
 use gw_text::{NoMemory, Second};
@@ -63,7 +63,7 @@ impl<T: Keyed + Drop> Table<T> {
 
     /// The objects in key order.
     pub fn objects(&self) -> &[T]
-        ensures { result.now ≡ map (λ h. h.object) self.now.held }
+        ensures { result.now ≡ objects self.now.held }
     {
         self.objects.as_slice()
     }

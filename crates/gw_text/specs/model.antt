@@ -6,3 +6,4 @@ pub mod Objects
 pub mod Held
 pub mod Forms
 pub mod Moments
+pub mod World

@@ -10,6 +10,10 @@ pub record Held (T : Type 0) : Type 0 where
   pub object : T
   pub first : ℤ
 
+-- The objects alone, in the same order.
+abbrev pub objects : {T : Type 0} → List (Held T) → List T
+objects held = map (λ h. h.object) held
+
 -- Keys are compared as texts, byte by byte.
 abbrev pub key_order : List ℕ → List ℕ → Ordering
 key_order = slice_cmp nat_cmp

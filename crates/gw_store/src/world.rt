@@ -1,0 +1,107 @@
+ghost use Rattle.std.specs.Prelude.{◌≡◌, ℕ, ◌<◌, ◌≤◌, OnOk, OnErr, count_by, bytes_eq};
+ghost use Rattle.gw_text.specs.model.Held.{objects};
+ghost use Rattle.gw_text.specs.model.World.{nothing, put_object, is_managed, attached_routes};
+ghost use Rattle.std.specs.List.{list_any};
+ghost use Rattle.gw_store.specs.Seen.{seen};
+
+use crate::plain::{Class, Gateway, Object, Route};
+use crate::table::Table;
+use gw_text::{NoMemory, Second, Text};
+use std::alloc::Global;
+use std::marker::Model;
+
+/// The objects that are held, kind by kind, in the order of their names.
+#[derive(Drop)]
+pub struct World {
+    classes: Table<Class>,
+    gateways: Table<Gateway>,
+    routes: Table<Route>,
+}
+
+impl Model for World {
+    ghost use Rattle.std.specs.Prelude.{min};
+    ghost use Rattle.gw_store.specs.World.{Stored};
+
+    ghost Value = { Stored };
+
+    ghost view = { λ w. record {
+      world = record { classes = w.classes.held; gateways = w.gateways.held; routes = w.routes.held };
+      spare = min w.classes.spare (min w.gateways.spare w.routes.spare);
+    } };
+}
+
+impl World {
+    /// Holds nothing.
+    pub fn new(alloc: Global) -> Self
+        ensures { result.world ≡ nothing }
+    {
+        World {
+            classes: Table::new(alloc),
+            gateways: Table::new(alloc),
+            routes: Table::new(alloc),
+        }
+    }
+
+    /// Makes room for one object more of each kind.
+    pub fn reserve(&mut self) -> Result<(), NoMemory>
+        ensures world { self.new.world ≡ self.old.world }
+        ensures ok { OnOk result (0 < self.new.spare) }
+    {
+        self.classes.reserve()?;
+        self.gateways.reserve()?;
+        self.routes.reserve()
+    }
+
+    /// Holds the object under its kind and name, in place of the one that is held there.
+    pub fn put(&mut self, object: Object, at: Second)
+        requires { 0 < self.old.spare }
+        ensures { self.new.world ≡ put_object self.old.world (seen object) at }
+    {
+        match object {
+            Object::Class(class) => self.classes.put(class, at),
+            Object::Gateway(gateway) => self.gateways.put(gateway, at),
+            Object::Route(route) => self.routes.put(route, at),
+        }
+    }
+
+    /// The Gateways in the order of their names.
+    pub fn gateways(&self) -> &[Gateway]
+        ensures { result.now ≡ objects self.now.world.gateways }
+    {
+        self.gateways.objects()
+    }
+
+    /// Whether the Gateway's class is held and names this controller.
+    #[tactic(auto, unfolding(gw_text::specs::model::World::is_managed))]
+    pub fn is_managed(&self, gateway: &Gateway, controller: &[u8]) -> bool
+        ensures { result ≡ is_managed controller.now self.now.world gateway.now }
+    {
+        match self.classes.get(gateway.class.bytes()) {
+            Some(class) => class.controller.bytes() == controller,
+            None => false,
+        }
+    }
+
+    /// How many of the held Routes have a parentRef that names the Gateway.
+    #[tactic(auto, unfolding(gw_text::specs::model::World::attached_routes))]
+    pub fn attached_routes(&self, gateway: &Gateway) -> usize
+        ensures { result ≡ attached_routes self.now.world gateway.now }
+    {
+        count_attached(gateway.name.bytes(), self.routes.objects())
+    }
+}
+
+fn count_attached(gateway: &[u8], routes: &[Route]) -> usize
+    ensures { result ≡ count_by (λ r. list_any (bytes_eq gateway.now) r.parents) routes.now }
+{
+    routes
+        .iter()
+        .filter(|route| is_attached(gateway, route))
+        .count()
+}
+
+fn is_attached(gateway: &[u8], route: &Route) -> bool
+    ensures { result ≡ list_any (bytes_eq gateway.now) route.now.parents }
+{
+    route.parents.iter().any(|parent| gateway == parent.bytes())
+}
