@@ -52,7 +52,7 @@ two_is : (n : ℕ) → 10 * (48 + n / 10 - 48) + (48 + n % 10 - 48) ≡ n
 two_is n = omega arith
 
 civil_of-civil_text : (c : Civil) → civil_of (civil_text c) ≡ c
-civil_of-civil_text c = 
+civil_of-civil_text c =
     let year : 100 * (c.date.year / 100) + c.date.year % 100 ≡ c.date.year = omega arith in
     rw (two_is (c.date.year / 100), two_is (c.date.year % 100), two_is c.date.month, two_is c.date.day, two_is c.hour, two_is c.minute, two_is c.second, year)
 

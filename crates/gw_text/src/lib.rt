@@ -6,6 +6,8 @@ mod host;
 mod key;
 mod name;
 mod second;
+#[cfg(test)]
+mod tests;
 mod text;
 
 pub use host::Host;
