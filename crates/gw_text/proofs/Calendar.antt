@@ -48,13 +48,13 @@ next_year d h last december before =
     let end = december_31 d.year d.month d.day h.civil december last in
     let here : count d ≡ day_count (pos d.year) 12 31 = rw (end.0, end.1) in
     let there : day_count (pos (d.year + 1)) 1 1 ≡ count d + 1 =
-        omega (arith, day_count-next_year (pos d.year) (pos (d.year + 1)) (omega (arith, signed_arith)) (omega (arith, signed_arith)), day_count-last_of_year (pos d.year)) in
+    omega (arith, day_count-next_year (pos d.year) (pos (d.year + 1)) (omega (arith, signed_arith)) (omega (arith, signed_arith)), day_count-last_of_year (pos d.year)) in
     let room : d.year < 9999 =
-        elim (cases_lt d.year 9999) [
-          | inl lt ↦ lt
-          | inr ge ↦ let top : d.year + 1 ≡ 10000 = omega (arith, signed_arith, h.civil.0) in
-              absurd (omega (arith, day_count-end, rw top at there))
-        ] in
+    elim (cases_lt d.year 9999) [
+      | inl lt ↦ lt
+      | inr ge ↦ let top : d.year + 1 ≡ 10000 = omega (arith, signed_arith, h.civil.0) in
+          absurd (omega (arith, day_count-end, rw top at there))
+    ] in
     record {
       is_day = record { civil = ((omega (arith, signed_arith), omega (arith, signed_arith)), (omega arith, omega arith), (omega arith, omega arith)); year = omega arith };
       one_more = there;

@@ -57,8 +57,18 @@ impl Key {
     pub fn compare(&self, other: &Key) -> Ordering
         ensures { result ≡ slice_cmp nat_cmp (joined self.now) (joined other.now) }
     {
-        let left = self.namespace.bytes().iter().chain(self.separator()).chain(self.name.bytes());
-        let right = other.namespace.bytes().iter().chain(other.separator()).chain(other.name.bytes());
+        let left = self
+            .namespace
+            .bytes()
+            .iter()
+            .chain(self.separator())
+            .chain(self.name.bytes());
+        let right = other
+            .namespace
+            .bytes()
+            .iter()
+            .chain(other.separator())
+            .chain(other.name.bytes());
         left.cmp(right)
     }
 
@@ -72,7 +82,11 @@ impl Key {
     fn separator(&self) -> &'static [u8]
         ensures { result.now ≡ separator self.now.namespace }
     {
-        if self.namespace.bytes().is_empty() { b"" } else { b"/" }
+        if self.namespace.bytes().is_empty() {
+            b""
+        } else {
+            b"/"
+        }
     }
 
     /// The same key once more.

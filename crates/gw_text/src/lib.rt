@@ -7,6 +7,8 @@ mod key;
 mod meta;
 mod name;
 mod second;
+#[cfg(test)]
+mod tests;
 mod text;
 
 pub use host::Host;

@@ -1,4 +1,4 @@
-ghost use Rattle.std.specs.Prelude.{◌≡◌, ◌||◌, ℕ, List, drop, Some, None, is_some, IfSome, if◌then◌else◌};
+ghost use Rattle.std.specs.Prelude.{◌≡◌, ◌||◌, ℕ, List, drop, Some, None, is_some, IfSome, IsTrue, if◌then◌else◌};
 ghost use Rattle.std.specs.List.{list_all, slice_split};
 ghost use Rattle.gw_text.specs.Parsing.{Parses};
 ghost use Rattle.gw_text.specs.declared.name.TextFault.TheVariants.{NoMemory as Starved};
@@ -42,9 +42,12 @@ impl Model for Name {
     ghost Value = { List ℕ };
 
     ghost view = { λ n. n.text };
+
+    ghost invariant = { λ n. IsTrue (forms.is_name n.text) };
 }
 
 impl Name {
+    /// The name, if the text is the name of an object.
     pub fn parse(alloc: Global, s: &str) -> Result<Self, TextFault>
         ensures { Parses (if forms.is_name s.now then Some s.now else None) result }
     {
@@ -56,7 +59,8 @@ impl Name {
     }
 
     pub fn text(&self) -> &Text
-        ensures { result.now ≡ self.now }
+        ensures value { result.now ≡ self.now }
+        ensures form { IsTrue (forms.is_name self.now) }
     {
         &self.text
     }

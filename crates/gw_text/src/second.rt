@@ -23,6 +23,7 @@ impl Model for Second {
 
 // 0001-01-01T00:00:00Z and 9999-12-31T23:59:59Z.
 const FIRST: i64 = -62_135_596_800;
+
 const LAST: i64 = 253_402_300_799;
 
 // The seconds of a day.
@@ -88,7 +89,9 @@ fn has_form(text: &[u8]) -> bool
 fn fits_form(text: &[u8]) -> bool
     ensures { result ≡ list_all (λ p. moments.fits p.0 p.1) (zip (codes "0000-00-00T00:00:00Z") text.now) }
 {
-    FORM.iter().zip(text).all(|(template, b)| fits(*template, *b))
+    FORM.iter()
+        .zip(text)
+        .all(|(template, b)| fits(*template, *b))
 }
 
 fn fits(template: u8, b: u8) -> bool
