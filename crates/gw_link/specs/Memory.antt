@@ -1,0 +1,79 @@
+-- What the forms in memory are, and what each of their calls does.
+use Rattle.std.specs.Prelude.{◌≡◌, ℕ, ℤ, ◌+◌, ◌==◌, Bool, true, false, if◌then◌else◌, min, List, [], ◌∷◌, ◌++◌, length, take, drop}
+use Rattle.std.specs.List.{list_any}
+use Rattle.gw_link.specs.Faults.{one_more}
+
+-- The numbers of the calls that fail, the number of the next call, and how many have failed.
+pub record Calls : Type 0 where
+  pub fails : List ℕ
+  pub next : ℕ
+  pub faults : ℕ
+
+-- Before the first call, whose number is 0.
+abbrev pub first_call : List ℕ → Calls
+first_call fails = record { fails = fails; next = 0; faults = 0 }
+
+-- The next call is listed.
+abbrev pub is_failing : Calls → Bool
+is_failing calls = list_any (λ number. number == calls.next) calls.fails
+
+-- After a call that did what it is for.
+abbrev pub passed : Calls → Calls
+passed calls = record calls { next = one_more calls.next }
+
+-- After a call that failed.
+abbrev pub failed : Calls → Calls
+failed calls = record calls { next = one_more calls.next; faults = one_more calls.faults }
+
+-- The bytes left, how many were given, the most for one call (not 0), and the calls.
+pub record SourceState : Type 0 where
+  pub left : List ℕ
+  pub given : ℕ
+  pub most : ℕ
+  pub calls : Calls
+
+-- How many bytes a read into a buffer of this size gives: the least of three.
+abbrev pub read_size : ℕ → SourceState → ℕ
+read_size size source = min size (min source.most (length source.left))
+
+-- After a read into a buffer of this size.
+abbrev pub after_read : ℕ → SourceState → SourceState
+after_read size source =
+    if is_failing source.calls then record source { calls = failed source.calls }
+    else record source { left = drop (read_size size source) source.left; given = source.given + read_size size source; calls = passed source.calls }
+
+-- The bytes written, how many more it has memory for, the most for one call (not 0), how many calls failed for want of memory, and the calls.
+pub record SinkState : Type 0 where
+  pub written : List ℕ
+  pub room : ℕ
+  pub most : ℕ
+  pub starved : ℕ
+  pub calls : Calls
+
+-- How many bytes of a piece a write takes: the lesser of two.
+abbrev pub write_size : List ℕ → SinkState → ℕ
+write_size piece sink = min (length piece) sink.most
+
+-- After a write that answered Ok (true) or Failed (false) and left this room: listed, taken, or refused the memory.
+abbrev pub after_write : List ℕ → Bool → ℕ → SinkState → SinkState
+after_write piece is_taken room sink =
+    if is_failing sink.calls then record sink { room = room; calls = failed sink.calls }
+    else (if is_taken then record sink { written = sink.written ++ take (write_size piece sink) piece; room = room; calls = passed sink.calls }
+    else record sink { room = room; starved = one_more sink.starved; calls = failed sink.calls })
+
+-- The moments to come, and the one that was given last: 0 before the first.
+pub record ClockState : Type 0 where
+  pub left : List ℤ
+  pub last : ℤ
+
+-- What the clock gives next: the first moment to come, or the last one again.
+abbrev pub next_moment : ClockState → ℤ
+next_moment clock = first_or clock.last clock.left
+  where
+    first_or : ℤ → List ℤ → ℤ
+    first_or last [] = last
+    first_or last (moment ∷ moments) = moment
+
+-- After a call.
+abbrev pub after_now : ClockState → ClockState
+after_now clock = record { left = drop 1 clock.left; last = next_moment clock }
