@@ -1,5 +1,5 @@
 -- What the forms in memory are, and what each of their calls does.
-use Rattle.std.specs.Prelude.{◌≡◌, ℕ, ℤ, ◌+◌, ◌==◌, Bool, true, false, if◌then◌else◌, min, List, [], ◌∷◌, ◌++◌, length, take, drop}
+use Rattle.std.specs.Prelude.{◌≡◌, ℕ, ℤ, ◌+◌, ◌==◌, Bool, true, false, if◌then◌else◌, min, List, [], ◌∷◌, ◌++◌, length, take, drop, slice_index_or}
 use Rattle.std.specs.List.{list_any}
 use Rattle.gw_link.specs.Faults.{one_more}
 
@@ -68,11 +68,7 @@ pub record ClockState : Type 0 where
 
 -- What the clock gives next: the first moment to come, or the last one again.
 abbrev pub next_moment : ClockState → ℤ
-next_moment clock = first_or clock.last clock.left
-  where
-    first_or : ℤ → List ℤ → ℤ
-    first_or last [] = last
-    first_or last (moment ∷ moments) = moment
+next_moment clock = slice_index_or clock.left 0 clock.last
 
 -- After a call.
 abbrev pub after_now : ClockState → ClockState

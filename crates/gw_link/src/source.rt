@@ -1,4 +1,4 @@
-ghost use Rattle.std.specs.Prelude.{◌≡◌, ℕ, ◌+◌, ◌<◌, ◌≤◌, ◌↔◌, List, Option, length, take, vec_len, IfOk, OnOk, OnErr};
+ghost use Rattle.std.specs.Prelude.{◌≡◌, ℕ, ◌+◌, ◌<◌, ◌≤◌, ◌↔◌, List, Option, length, take, vec_len, IfSome, IfOk, OnOk, OnErr};
 ghost use Rattle.gw_link.specs.Faults.{Counts, HasRisen};
 ghost use Rattle.gw_link.specs.Pieces.{Gives, GivesPart, IsAtEnd};
 
@@ -66,14 +66,17 @@ pub fn read_all<S: Source>(alloc: Global, source: &mut S) -> Result<Vec<u8>, Rea
     ensures all { IfOk result (λ v. Gives (S.left source.old) v.items (S.left source.new)) }
     ensures end { OnOk result (IsAtEnd (S.left source.new)) }
     ensures counted { IfOk result (λ v. S.given source.new ≡ S.given source.old + vec_len v) }
+    ensures small { IfOk result (λ v. vec_len v ≤ MOST_INPUT) }
+
+    // Too much is what was given, also by a source that doesn't tell what it has.
+    ensures too_long { (result ≡ Err ReadFault.TooLong) ↔ (S.given source.old + MOST_INPUT < S.given source.new) }
+    ensures long { result ≡ Err ReadFault.TooLong → IfSome (S.left source.old) (λ input. MOST_INPUT < length input) }
+    ensures failed { result ≡ Err ReadFault.Failed → HasRisen (S.faults source.old) (S.faults source.new) }
+    ensures later { S.faults source.old ≤ S.faults source.new }
 
     // Whatever the answer, bytes were taken from the front, and not many more than the limit.
     ensures part { GivesPart (S.left source.old) (S.given source.old) (S.left source.new) (S.given source.new) }
     ensures limit { S.given source.new ≤ S.given source.old + (MOST_INPUT + MOST_PIECE) }
-
-    ensures too_long { (result ≡ Err ReadFault.TooLong) ↔ (S.given source.old + MOST_INPUT < S.given source.new) }
-    ensures failed { result ≡ Err ReadFault.Failed → HasRisen (S.faults source.old) (S.faults source.new) }
-    ensures later { S.faults source.old ≤ S.faults source.new }
 {
     let mut input = Vec::new(alloc);
     let mut buffer = [0; MOST_PIECE];
