@@ -33,7 +33,9 @@ fn a_source_gives_pieces_and_fails_where_listed(rt: HostRuntime) -> Result<(), F
 #[test]
 fn a_source_is_read_in_pieces_of_each_size(rt: HostRuntime) -> Result<(), Fail> {
     for most in 1..9 {
-        let mut source = MemSource::new(TEXT.to_vec(rt.alloc())?, Vec::new(rt.alloc())).at_most(most);
+        let mut source = MemSource::new(TEXT.to_vec(rt.alloc())?, Vec::new(rt.alloc())).at_most(
+            most,
+        );
         let all = read_all(rt.alloc(), &mut source)?;
         assert_eq!(rt; all.as_slice(), TEXT.as_slice(), "{most} at a time");
         assert!(rt; source.left().is_empty() && source.faults() == 0);
@@ -48,7 +50,11 @@ fn each_read_fails_in_turn(rt: HostRuntime) -> Result<(), Fail> {
     for n in 0..8 {
         let fails = [n as u64].to_vec(rt.alloc())?;
         let mut source = MemSource::new(TEXT.to_vec(rt.alloc())?, fails).at_most(1);
-        assert_eq!(rt; read_all(rt.alloc(), &mut source).err(), Some(ReadFault::Failed), "read {n}");
+        assert_eq!(rt;
+            read_all(rt.alloc(), &mut source).err(),
+            Some(ReadFault::Failed),
+            "read {n}"
+        );
         assert_eq!(rt; source.faults(), 1);
         assert_eq!(rt; source.left(), &text[n..]);
         let rest = read_all(rt.alloc(), &mut source)?;

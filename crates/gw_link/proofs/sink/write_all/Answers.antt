@@ -8,4 +8,5 @@ pieces-preserved g c = record {
   within = search rules;
   taken = rw take-add (Takes-more _ _ _ _ _ c.pieces.invariant.taken (rw take_rest at c.in_ok-at.ensures.takes));
   later = search rules;
-  none = λ zero. absurd (omega (arith, c.in_ok-at.ensures.some)) }
+  none = λ zero. absurd (omega (arith, c.in_ok-at.ensures.some));
+}
