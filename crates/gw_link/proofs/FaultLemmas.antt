@@ -1,6 +1,6 @@
 -- A count of faults over several calls.
 use Rattle.std.proofs.Common.{ℕ, ◌≤◌, inl, inr, arith}
-use Rattle.gw_link.specs.Faults.{HasRisen, last_count}
+use Rattle.gw_link.specs.Faults.{HasRisen}
 
 -- A count that rises in a later call has risen since an earlier one.
 pub HasRisen-then : (first before now : ℕ) → first ≤ before → HasRisen before now → HasRisen first now

@@ -1,5 +1,5 @@
 -- A clock over several calls.
-use Rattle.std.proofs.Common.{◌≡◌, ℤ, List, [], ◌∷◌, drop, Option, Some, None, option_map, refl}
+use Rattle.std.proofs.Common.{◌≡◌, ℤ, List, [], ◌∷◌, drop, Option, Some, None, option_map}
 use Rattle.gw_link.specs.Moments.{Ticks}
 
 -- Each call uses up one moment, where there is one.

@@ -2,7 +2,7 @@
 use Rattle.std.specs.Prelude.{◌≡◌, ℤ, List, [], ◌∷◌, Option, Some, None}
 
 -- The clock was asked once: it gave the first of the moments to come, and the others are to come.
--- One that tells nothing goes on telling nothing, and one whose moments are used up has none to come; then any moment may be given.
+-- A clock that tells nothing, or whose moments are used up, stays so and may give any moment.
 abbrev pub Ticks : Option (List ℤ) → ℤ → Option (List ℤ) → Type 0
 Ticks None now after = after ≡ None
 Ticks (Some []) now after = after ≡ Some []

@@ -1,4 +1,5 @@
--- Bytes that a source gives and a sink takes, piece by piece. None is told by an object that tells nothing, before and after.
+-- Bytes that a source gives and a sink takes, piece by piece. An object that tells nothing has
+-- None before and after.
 use Rattle.std.specs.Prelude.{◌≡◌, ℕ, ◌+◌, ◌≤◌, List, [], ◌++◌, length, take, Option, option_map, IfSome}
 
 -- What was left is the piece, and then what is left now.

@@ -20,7 +20,13 @@ pub struct MemSink {
 impl Model for MemSink {
     ghost Value = { SinkState };
 
-    ghost view = { λ s. record { written = s.bytes.items; room = vec_capacity s.bytes - vec_len s.bytes; most = s.most; starved = s.starved; calls = s.plan } };
+    ghost view = { λ s. record {
+      written = s.bytes.items;
+      room = vec_capacity s.bytes - vec_len s.bytes;
+      most = s.most;
+      starved = s.starved;
+      calls = s.plan;
+    } };
 
     ghost invariant = { λ s. 0 < s.most };
 }
@@ -28,7 +34,13 @@ impl Model for MemSink {
 impl MemSink {
     /// An empty sink. `fails`: the numbers of the writes that fail, from 0.
     pub fn new(alloc: Global, fails: Vec<u64>) -> Self
-        ensures { result ≡ record { written = []; room = result.room; most = usize.MAX; starved = 0; calls = first_call fails.items } }
+        ensures { result ≡ record {
+          written = [];
+          room = result.room;
+          most = usize.MAX;
+          starved = 0;
+          calls = first_call fails.items;
+        } }
     {
         MemSink {
             bytes: Vec::new(alloc),
@@ -88,12 +100,16 @@ impl Sink for MemSink {
 
     fn write(&mut self, piece: &[u8]) -> Result<usize, Failed>
         requires { 0 < length piece.now }
-        ensures fails { IsTrue (is_failing self.old.calls) → IsErr result }
-        ensures cause { OnErr result (IsTrue (is_failing self.old.calls) ⊎ (self.old.room < write_size piece.now self.old)) }
+        // It fails where it is listed, and else only where memory was wanted and refused.
+        ensures listed { IsTrue (is_failing self.old.calls) → IsErr result }
+        ensures wanted { OnErr result (IsTrue (is_failing self.old.calls) ⊎ (self.old.room < write_size piece.now self.old)) }
+
         ensures size { IfOk result (λ n. n ≡ write_size piece.now self.old) }
         ensures some { IfOk result (λ n. 0 < n) }
-        ensures after { self.new ≡ after_write piece.now (is_ok result) self.new.room self.old }
-        ensures room { self.old.room + length self.old.written ≤ self.new.room + length self.new.written }
+        ensures after { self.new ≡ record (after_write piece.now (is_ok result) self.old) { room = self.new.room } }
+
+        // The memory that it has is never given back.
+        ensures room { length self.old.written + self.old.room ≤ length self.new.written + self.new.room }
     {
         if self.plan.fails() {
             self.plan.fail();

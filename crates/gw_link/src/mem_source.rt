@@ -1,4 +1,4 @@
-ghost use Rattle.std.specs.Prelude.{◌≡◌, ℕ, ◌+◌, ◌<◌, ◌≤◌, [], Some, length, take, drop, vec_len, IfOk, is_err};
+ghost use Rattle.std.specs.Prelude.{◌≡◌, ℕ, ◌+◌, ◌<◌, ◌≤◌, [], Some, length, take, drop, vec_len, IfOk, OnErr, is_err};
 ghost use Rattle.gw_link.specs.Memory.{SourceState, first_call, is_failing, read_size, after_read};
 
 use crate::failed::Failed;
@@ -18,7 +18,12 @@ pub struct MemSource {
 impl Model for MemSource {
     ghost Value = { SourceState };
 
-    ghost view = { λ s. record { left = drop s.at s.bytes.items; given = s.at; most = s.most; calls = s.plan } };
+    ghost view = { λ s. record {
+      left = drop s.at s.bytes.items;
+      given = s.at;
+      most = s.most;
+      calls = s.plan;
+    } };
 
     ghost invariant = { λ s. (s.at ≤ vec_len s.bytes) × (0 < s.most) };
 }
@@ -26,7 +31,12 @@ impl Model for MemSource {
 impl MemSource {
     /// A source of these bytes. `fails`: the numbers of the reads that fail, from 0.
     pub fn new(bytes: Vec<u8>, fails: Vec<u64>) -> Self
-        ensures { result ≡ record { left = bytes.items; given = 0; most = usize.MAX; calls = first_call fails.items } }
+        ensures { result ≡ record {
+          left = bytes.items;
+          given = 0;
+          most = usize.MAX;
+          calls = first_call fails.items;
+        } }
     {
         MemSource {
             bytes,
@@ -76,6 +86,8 @@ impl Source for MemSource {
         ensures fails { is_err result ≡ is_failing self.old.calls }
         ensures size { IfOk result (λ n. n ≡ read_size (length buf.old) self.old) }
         ensures bytes { IfOk result (λ n. take n buf.new ≡ take n self.old.left) }
+        ensures rest { IfOk result (λ n. drop n buf.new ≡ drop n buf.old) }
+        ensures err { OnErr result (buf.new ≡ buf.old) }
         ensures after { self.new ≡ after_read (length buf.old) self.old }
         ensures ends { result ≡ Ok 0 → self.new.left ≡ [] }
     {

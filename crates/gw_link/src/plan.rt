@@ -1,5 +1,5 @@
 ghost use Rattle.std.specs.Prelude.{◌≡◌, if◌then◌else◌, IsTrue};
-ghost use Rattle.gw_link.specs.Memory.{Calls, first_call, is_failing, passed, failed};
+ghost use Rattle.gw_link.specs.Memory.{Calls, first_call, is_failing, after_pass, after_fail};
 
 use std::marker::Model;
 
@@ -42,13 +42,13 @@ impl Plan {
     }
 
     pub(crate) fn pass(&mut self)
-        ensures { self.new ≡ passed self.old }
+        ensures { self.new ≡ after_pass self.old }
     {
         self.next = self.next.saturating_add(1);
     }
 
     pub(crate) fn fail(&mut self)
-        ensures { self.new ≡ failed self.old }
+        ensures { self.new ≡ after_fail self.old }
     {
         self.next = self.next.saturating_add(1);
         self.faults = self.faults.saturating_add(1);

@@ -3,7 +3,8 @@ ghost use Rattle.gw_link.specs.Faults.{Counts, HasRisen};
 ghost use Rattle.gw_link.specs.Pieces.{Gives, GivesPart, IsAtEnd};
 
 use crate::failed::Failed;
-use std::alloc::{AllocError, Global};
+use gw_text::NoMemory;
+use std::alloc::Global;
 
 /// The most bytes that `read_all` takes: 64 MiB.
 pub const MOST_INPUT: usize = 67_108_864;
@@ -51,12 +52,12 @@ impl From<Failed> for ReadFault {
     }
 }
 
-impl From<AllocError> for ReadFault {
+impl From<NoMemory> for ReadFault {
     ghost use Rattle.gw_link.specs.declared.source.ReadFault.TheVariants.{NoMemory as Starved};
 
     ghost from_gives = { λ _ fault. fault ≡ Starved };
 
-    fn from(_: AllocError) -> Self {
+    fn from(_: NoMemory) -> Self {
         ReadFault::NoMemory
     }
 }
@@ -69,13 +70,17 @@ pub fn read_all<S: Source>(alloc: Global, source: &mut S) -> Result<Vec<u8>, Rea
     ensures small { IfOk result (λ v. vec_len v ≤ MOST_INPUT) }
 
     // Too much is what was given, also by a source that doesn't tell what it has.
-    ensures too_long { (result ≡ Err ReadFault.TooLong) ↔ (S.given source.old + MOST_INPUT < S.given source.new) }
-    ensures long { result ≡ Err ReadFault.TooLong → IfSome (S.left source.old) (λ input. MOST_INPUT < length input) }
-    ensures failed { result ≡ Err ReadFault.Failed → HasRisen (S.faults source.old) (S.faults source.new) }
+    ensures too_long { (result ≡ Err ReadFault.TooLong) ↔
+        (S.given source.old + MOST_INPUT < S.given source.new) }
+    ensures long { result ≡ Err ReadFault.TooLong →
+        IfSome (S.left source.old) (λ input. MOST_INPUT < length input) }
+    ensures failed { result ≡ Err ReadFault.Failed →
+        HasRisen (S.faults source.old) (S.faults source.new) }
     ensures later { S.faults source.old ≤ S.faults source.new }
 
     // Whatever the answer, bytes were taken from the front, and not many more than the limit.
-    ensures part { GivesPart (S.left source.old) (S.given source.old) (S.left source.new) (S.given source.new) }
+    ensures part { GivesPart (S.left source.old) (S.given source.old)
+        (S.left source.new) (S.given source.new) }
     ensures limit { S.given source.new ≤ S.given source.old + (MOST_INPUT + MOST_PIECE) }
 {
     let mut input = Vec::new(alloc);

@@ -67,7 +67,7 @@ fn each_read_fails_in_turn(rt: HostRuntime) -> Result<(), Fail> {
 fn a_sink_takes_pieces_and_fails_where_listed(rt: HostRuntime) -> Result<(), Fail> {
     let mut sink = MemSink::new(rt.alloc(), [1, 3].to_vec(rt.alloc())?).at_most(3);
     sink.reserve(TEXT.len())?;
-    // How many bytes are to be written, what the write answers, what stands then and how many have failed.
+    // How many bytes to write, what the write answers, what stands then and how many have failed.
     let calls = [
         (7, Ok(3), b"gat".as_slice(), 0),
         (7, Err(Failed), b"gat".as_slice(), 1),
@@ -101,6 +101,7 @@ fn a_piece_is_written_in_pieces_of_each_size(rt: HostRuntime) -> Result<(), Fail
 fn each_write_fails_in_turn(rt: HostRuntime) -> Result<(), Fail> {
     for n in 0..7 {
         let mut sink = MemSink::new(rt.alloc(), [n as u64].to_vec(rt.alloc())?).at_most(1);
+        sink.reserve(TEXT.len())?;
         assert_eq!(rt; write_all(&mut sink, TEXT), Err(Failed), "write {n}");
         assert_eq!(rt; sink.written(), &TEXT[..n]);
         assert!(rt; sink.faults() == 1 && sink.starved() == 0);

@@ -1,4 +1,4 @@
-use Rattle.std.proofs.Common.{rules, take, take-add, arith}
+use Rattle.std.proofs.Common.{rules, take-add, arith}
 use Rattle.std.proofs.lemmas.List.{take_rest}
 use Rattle.gw_link.proofs.PieceLemmas.{Takes-more}
 use Rattle.gw_link.proofs.sink.write_all.Goals as goal

@@ -1,4 +1,4 @@
-use Rattle.std.proofs.Common.{length, ◌-◌, ◌≡◌, ℕ, ◌≤◌, List, [], take}
+use Rattle.std.proofs.Common.{length, ◌-◌, ◌≡◌, ◌≤◌, take}
 use Rattle.gw_link.specs.Pieces.{Takes}
 use Rattle.gw_link.proofs.sink.write_all.Given as goal
 

@@ -1,4 +1,4 @@
-use Rattle.std.proofs.Common.{rules, take, arith}
+use Rattle.std.proofs.Common.{rules}
 use Rattle.gw_link.proofs.PieceLemmas.{GivesPart-more}
 use Rattle.gw_link.proofs.source.read_all.Goals as goal
 

@@ -1,4 +1,4 @@
-use Rattle.std.proofs.Common.{◌≡◌, ℕ, ◌+◌, ◌≤◌, ◌-◌, List, vec_len}
+use Rattle.std.proofs.Common.{◌≡◌, ◌+◌, ◌≤◌, ◌-◌, vec_len}
 use Rattle.gw_link.specs.declared.source.TheConstants.{MOST_INPUT}
 use Rattle.gw_link.specs.Pieces.{Gives}
 use Rattle.gw_link.proofs.source.read_all.Given as goal
