@@ -7,3 +7,8 @@ abbrev pub Ticks : Option (List ℤ) → ℤ → Option (List ℤ) → Type 0
 Ticks None now after = after ≡ None
 Ticks (Some []) now after = after ≡ Some []
 Ticks (Some (moment ∷ moments)) now after = (now ≡ moment) × (after ≡ Some moments)
+
+-- The clock was asked once for each of these moments, in turn.
+abbrev pub TicksInTurn : Option (List ℤ) → List ℤ → Option (List ℤ) → Type 0
+TicksInTurn before [] after = after ≡ before
+TicksInTurn before (now ∷ moments) after = (between : Option (List ℤ)) × (Ticks before now between × TicksInTurn between moments after)

@@ -4,7 +4,7 @@ use Rattle.std.specs.List.{list_any}
 use Rattle.serde_json.specs.Data.{Data}
 use Rattle.serde_json.specs.Find.{get, as_str, as_object}
 use Rattle.gw_json.specs.declared.refusal.Refusal.{Refusal}
-use Rattle.gw_json.specs.declared.refusal.Refusal.TheVariants.{NotEvent, NotYet, BadValue}
+use Rattle.gw_json.specs.declared.refusal.Refusal.TheVariants.{NotJson, NotEvent, NotYet, BadValue}
 use Rattle.gw_json.specs.Words.{◌>>=◌, or, want, each, all_of}
 use Rattle.gw_json.specs.Fields.{Place, count_of, need_of, items_of, text_of, number_of}
 use Rattle.gw_json.specs.Lines.{value_of}
@@ -194,3 +194,9 @@ answer line = do
   value ← value_of line
   event ← event_of value
   plain_of event
+
+-- The number by which the first release prints a refusal: what is no JSON, what is no event, and the rest.
+abbrev pub first_number : Refusal → ℕ
+first_number NotJson = 1
+first_number NotEvent = 2
+first_number _ = 9

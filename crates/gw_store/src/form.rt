@@ -365,3 +365,14 @@ pub fn read_object(alloc: Global, line: &[u8]) -> Result<Object, Refusal>
     let event = read_event(alloc, &value)?;
     plain(alloc, &event)
 }
+
+/// The number by which a refused line is printed.
+pub fn refusal_number(refusal: &Refusal) -> u64
+    ensures { result ≡ form.first_number refusal.now }
+{
+    match refusal {
+        Refusal::NotJson => 1,
+        Refusal::NotEvent => 2,
+        _ => 9,
+    }
+}

@@ -6,7 +6,7 @@ mod plain;
 mod table;
 mod world;
 
-pub use form::read_object;
+pub use form::{read_object, refusal_number};
 pub use plain::{Class, Gateway, Listener, Object, Route};
 pub use table::{Keyed, Table};
 pub use world::World;

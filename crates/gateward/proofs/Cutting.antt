@@ -1,0 +1,26 @@
+-- Where an input is cut.
+use Rattle.std.proofs.Common.{◌≡◌, ℕ, ◌+◌, ◌<◌, ◌≤◌, Bool, true, false, cond, List, [], ◌∷◌, length, take, drop, Option, None, Some, refl, sym, nat_lt, position, arith}
+use Rattle.std.specs.List.{slice_split, position_or_len, All}
+use Rattle.std.proofs.lemmas.List.Splits.{slice_split_first, slice_split_none}
+use Rattle.std.proofs.lemmas.List.Sums.{fails_before_first}
+use borrow.Author.Tests.{ltb-true, ltb-false}
+
+some_parts : (b : Bool) (n at : ℕ) → cond b (Some n) None ≡ Some at → (b ≡ true) × (n ≡ at)
+some_parts true n at e = (refl, cc)
+some_parts false n at e = cc
+
+none_part : (b : Bool) (n : ℕ) → cond b (Some n) None ≡ None → b ≡ false
+none_part true n e = cc
+none_part false n e = refl
+
+-- at the first element that passes
+pub cut_at : (p : ℕ → Bool) (xs : List ℕ) (at : ℕ) → position p xs ≡ Some at → slice_split p xs ≡ take at xs ∷ slice_split p (drop (at + 1) xs)
+cut_at p xs at e =
+    let parts : (nat_lt (position_or_len p xs) (length xs) ≡ true) × (position_or_len p xs ≡ at) = some_parts _ _ _ e in
+    rw parts.1 at (slice_split_first p xs 0 (ltb-true _ _ parts.0))
+
+-- nowhere, where none passes
+pub cut_nowhere : (p : ℕ → Bool) (xs : List ℕ) → position p xs ≡ None → slice_split p xs ≡ xs ∷ []
+cut_nowhere p xs e =
+    let all : length xs ≤ position_or_len p xs = ltb-false _ _ (none_part _ _ e) in
+    slice_split_none p xs (λ k d lt. fails_before_first p xs k d (omega arith))

@@ -1,0 +1,5 @@
+pub mod Lines
+pub mod RunText
+pub mod Reports
+pub mod Runs
+pub mod Statuses
