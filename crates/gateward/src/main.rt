@@ -3,9 +3,40 @@
 #![tactic(auto)]
 
 mod lines;
+mod outside;
 mod print;
 mod report;
 mod run;
 mod status;
 
-fn main() {}
+use outside::{StdSink, StdSource, WallClock};
+use std::alloc::AllocError;
+use std::io::ErrorKind;
+use std::process::ExitCode;
+use std::rt::Env;
+use std::{env, io};
+
+// The words that follow the program's name. Words that aren't UTF-8 are no command, and so none at all.
+fn words(rt: &(impl Env + AllocGlobal)) -> Result<Vec<String>, AllocError> {
+    let mut words = Vec::new(rt.alloc());
+    match env::args(rt) {
+        Ok(args) => {
+            for word in args.skip(1) {
+                words.push(word)?;
+            }
+            Ok(words)
+        }
+        Err(error) if error.kind() == ErrorKind::OutOfMemory => Err(AllocError),
+        Err(_) => Ok(words),
+    }
+}
+
+fn main(rt: HostRuntime) -> ExitCode {
+    let alloc = rt.alloc();
+    let Ok(words) = words(&rt) else {
+        return ExitCode::from(6);
+    };
+    let mut source = StdSource::new(rt.stdin());
+    let mut sink = StdSink::new(io::writer(&rt));
+    ExitCode::from(run::run(alloc, words.as_slice(), &mut source, &mut sink, WallClock::new(rt)))
+}
