@@ -6,6 +6,8 @@
 mod cursor;
 mod line;
 mod refusal;
+#[cfg(test)]
+mod tests;
 
 pub use cursor::Cursor;
 pub use line::{MAX_LINE, push_line, read_value};
