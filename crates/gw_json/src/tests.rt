@@ -144,38 +144,39 @@ fn numbers(rt: HostRuntime) -> Result<(), Fail> {
     Ok(())
 }
 
-// A number and a path, as `status` prints a refusal.
-fn printed(alloc: Global, refusal: &Refusal) -> Result<String, AllocError> {
-    let path = match refusal.path() {
-        Some(path) => path.as_str(),
-        None => "-",
-    };
-    format!(in alloc; "{} {path}", refusal.number())
-}
-
-// The last port of the first listener, read as a Gateway's fields are.
-fn port_of(alloc: Global, line: &[u8]) -> Result<u64, Refusal> {
-    let value = read_value(alloc, line)?;
-    let spec = Cursor::root(alloc, &value)?.need(alloc, "spec")?;
+// The port of a listener, whichever name it has.
+fn port_in(alloc: Global, listener: &Cursor<'_>) -> Result<u64, Refusal> {
     let mut port = 0;
-    for listener in &spec.need(alloc, "listeners")?.items(alloc, 2)? {
-        for (name, field) in &listener.members(alloc)? {
-            if name.as_str() != "name" {
-                port = field.number(alloc, 1, 65_535)?;
-            }
-        }
+    for (_, field) in &listener.members(alloc)? {
+        port = field.number(alloc, 1, 65_535)?;
     }
     Ok(port)
+}
+
+// The port of the last listener.
+fn port_of(alloc: Global, line: &[u8]) -> Result<u64, Refusal> {
+    let value = read_value(alloc, line)?;
+    let listeners = Cursor::root(alloc, &value)?
+        .need(alloc, "spec")?
+        .need(alloc, "listeners")?;
+    let mut port = 0;
+    for listener in &listeners.items(alloc, 2)? {
+        port = port_in(alloc, listener)?;
+    }
+    Ok(port)
+}
+
+// A number and a path, as a refusal is printed.
+fn printed(alloc: Global, refusal: &Refusal) -> Result<String, AllocError> {
+    let path = refusal.path().map(|path| path.as_str());
+    format!(in alloc; "{} {}", refusal.number(), path.unwrap_or("-"))
 }
 
 #[test]
 fn paths(rt: HostRuntime) -> Result<(), Fail> {
     let alloc = rt.alloc();
     for (line, want) in [
-        (
-            "{\"spec\":{\"listeners\":[{\"name\":\"a\",\"port\":80}]}}",
-            "80",
-        ),
+        ("{\"spec\":{\"listeners\":[{\"a\":1,\"port\":80}]}}", "80"),
         (
             "{\"spec\":{\"listeners\":[{\"port\":80},{\"port\":80,\"port\":81}]}}",
             "81",
@@ -185,7 +186,7 @@ fn paths(rt: HostRuntime) -> Result<(), Fail> {
             "4 spec.listeners[1].port",
         ),
         (
-            "{\"spec\":{\"listeners\":[{\"port\":70000,\"name\":0}]}}",
+            "{\"spec\":{\"listeners\":[{\"port\":70000,\"z\":\"\"}]}}",
             "5 spec.listeners[0].port",
         ),
         (
@@ -202,6 +203,7 @@ fn paths(rt: HostRuntime) -> Result<(), Fail> {
         ("{\"spec\":null}", "3 spec"),
         ("{\"spec\":0}", "4 spec"),
         ("[]", "4 "),
+        ("{", "1 -"),
     ] {
         let told = match port_of(alloc, line.as_bytes()) {
             Ok(port) => format!(in alloc; "{port}")?,
@@ -212,40 +214,48 @@ fn paths(rt: HostRuntime) -> Result<(), Fail> {
     Ok(())
 }
 
-#[test]
-fn members(rt: HostRuntime) -> Result<(), Fail> {
-    let alloc = rt.alloc();
-    let line = b"{\"o\":{\"b\":\"x\",\"\":0,\"a\":null,\"\\u00e9\":true,\"B\":[],\"b\":false}}";
-    let value = read_value(alloc, line).ok().ok_or("the line is JSON")?;
-    let root = Cursor::root(alloc, &value).ok().ok_or("a root")?;
-    let object = root.need(alloc, "o").ok().ok_or("o is there")?;
-    assert!(rt;
-        object
-            .get(alloc, "a")
-            .ok()
-            .ok_or("a may be null")?
-            .is_none()
-    );
-    assert!(rt;
-        object
-            .get(alloc, "c")
-            .ok()
-            .ok_or("c may be absent")?
-            .is_none()
-    );
-    assert_eq!(rt; object.member_count(alloc).ok(), Some(5));
+// The members of an object of words, each with its path and whether it is null.
+fn members_in(alloc: Global, at: &Cursor<'_>) -> Result<String, Refusal> {
     let mut told = String::new(alloc);
-    for (name, member) in &object.members(alloc).ok().ok_or("o is an object")? {
+    for (name, member) in &at.members(alloc)? {
         let path = member.path.as_str();
         let null = member.value.is_null();
         told.push_str(format!(in alloc; "{name} {path} {null};")?.as_str())?;
     }
+    Ok(told)
+}
+
+#[test]
+fn members(rt: HostRuntime) -> Result<(), Fail> {
+    let alloc = rt.alloc();
+    let line = b"{\"b\":\"x\",\"\":0,\"a\":null,\"\\u00e9\":true,\"B\":[],\"b\":false}";
+    let value = read_value(alloc, line).ok().ok_or("the line is JSON")?;
+    let at = Cursor {
+        value: &value,
+        path: Path::of(alloc, "o")?,
+    };
+    assert_eq!(rt; at.member_count(alloc).ok(), Some(5));
+    let told = members_in(alloc, &at).ok().ok_or("the members are told")?;
     assert_eq!(rt;
         told.as_str(),
         " o. false;B o.B false;a o.a true;b o.b false;\u{e9} o.\u{e9} false;"
     );
-    let last = object.need(alloc, "b").ok().ok_or("b is there")?;
-    assert_eq!(rt; last.truth(alloc).ok(), Some(false));
+    Ok(())
+}
+
+// Whether there is a field of that name.
+fn is_there(alloc: Global, value: &Value, name: &str) -> Result<bool, Refusal> {
+    Ok(Cursor::root(alloc, value)?.get(alloc, name)?.is_some())
+}
+
+#[test]
+fn fields(rt: HostRuntime) -> Result<(), Fail> {
+    let alloc = rt.alloc();
+    let line = b"{\"a\":null,\"b\":null,\"b\":false,\"c\":0,\"c\":null}";
+    let value = read_value(alloc, line).ok().ok_or("the line is JSON")?;
+    for (name, there) in [("a", false), ("b", true), ("c", false), ("d", false)] {
+        assert_eq!(rt; is_there(alloc, &value, name).ok(), Some(there), "{name}");
+    }
     Ok(())
 }
 
@@ -259,25 +269,5 @@ fn printed_lines(rt: HostRuntime) -> Result<(), Fail> {
         out.as_str(),
         "first\n{\"line\":2,\"none\":null,\"path\":\"a\\n\\\"\u{e9}\"}\n"
     );
-    Ok(())
-}
-
-#[test]
-fn refusals(rt: HostRuntime) -> Result<(), Fail> {
-    let alloc = rt.alloc();
-    let path = Path::of(alloc, "a")?;
-    for (refusal, want) in [
-        (Refusal::NotJson, "1 -"),
-        (Refusal::NotEvent, "2 -"),
-        (Refusal::Missing(path.copied(alloc)?), "3 a"),
-        (Refusal::WrongType(path.copied(alloc)?), "4 a"),
-        (Refusal::BadValue(path.copied(alloc)?), "5 a"),
-        (Refusal::TooLong(path.copied(alloc)?), "6 a"),
-        (Refusal::Full, "7 -"),
-        (Refusal::NotYet, "9 -"),
-        (Refusal::NoMemory, "0 -"),
-    ] {
-        assert_eq!(rt; printed(alloc, &refusal)?.as_str(), want);
-    }
     Ok(())
 }
