@@ -1,11 +1,11 @@
 -- Reading a line: what a value or a refusal of serde_json says of `value_of`.
-use Rattle.std.proofs.Common.{◌≡◌, ℕ, ◌≤◌, Bool, true, false, List, length, Some, None, Ok, Err, refl, sym, codes}
+use Rattle.std.proofs.Common.{◌≡◌, ℕ, ◌≤◌, Bool, true, false, List, length, Some, None, Ok, Err, refl}
 use Rattle.std.proofs.lemmas.Bool.{le-leb}
 use Rattle.std.proofs.lemmas.Str.{IsUtf8-from_is_utf8, is_utf8-from_IsUtf8}
 use Rattle.std.specs.Str.{is_utf8, IsUtf8}
 use Rattle.serde_json.specs.Data.{Data}
 use Rattle.serde_json.specs.Read.{read}
-use Rattle.gw_json.specs.declared.refusal.Refusal.TheVariants.{NotJson, TooLong}
+use Rattle.gw_json.specs.declared.refusal.Refusal.TheVariants.{NotJson}
 use Rattle.gw_json.specs.Lines.{max_line, json_of, value_of}
 
 -- a short line that was read

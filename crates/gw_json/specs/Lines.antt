@@ -1,5 +1,5 @@
 -- What a line means, and how a value is written as one.
-use Rattle.std.specs.Prelude.{ℕ, List, [], ◌∷◌, ◌++◌, length, codes, nat_le, if◌then◌else◌, Option, None, Result}
+use Rattle.std.specs.Prelude.{ℕ, List, ◌++◌, length, codes, nat_le, if◌then◌else◌, Option, None, Result}
 use Rattle.std.specs.Str.{is_utf8}
 use Rattle.serde_json.specs.Data.{Data}
 use Rattle.serde_json.specs.Read.{read}
