@@ -1,6 +1,6 @@
 -- Values without floats, which is what printing a line asks for. A literal object of texts and whole numbers computes so;
 -- lists, and members that are put in one after another, go by these.
-use Rattle.std.proofs.Common.{◌≡◌, ℕ, Bool, false, List, [], ◌∷◌, map, Ordering, Less, Equal, Greater, refl}
+use Rattle.std.proofs.Common.{◌≡◌, ℕ, false, List, [], ◌∷◌, map, Ordering, Less, Equal, Greater, refl}
 use Rattle.std.proofs.lemmas.Bool.{or_parts}
 use Rattle.std.specs.Ordering.{match_ordering, nat_cmp}
 use Rattle.std.specs.Cmp.Lexicographic.{slice_cmp}
@@ -8,7 +8,7 @@ use Rattle.serde_json.specs.Data.{Data, Members, no_members, member, put}
 use Rattle.serde_json.specs.View.{items_of}
 use Rattle.serde_json.specs.Written.{has_float, items_have_float, members_have_float}
 
--- a list of values that have none
+-- A list of values that have none. Where it is cited, write f and the list out.
 pub items_have_float-map : {A : Type 0} (f : A → Data) (xs : List A) → ((x : A) → has_float (f x) ≡ false) → items_have_float (items_of (map f xs)) ≡ false
 items_have_float-map f [] none = refl
 items_have_float-map f (x ∷ xs) none = rw (none x) (items_have_float-map f xs none)

@@ -1,4 +1,5 @@
--- The fields of an object that was read. A field is a value and its path; what is not as it must be gives a refusal with the path.
+-- The fields of an object that was read, by the conventions of the Kubernetes API: a null field is an absent one.
+-- What is not as it must be gives a refusal with its path.
 use Rattle.std.specs.Prelude.{ℕ, ◌+◌, ◌&&◌, ◌||◌, Bool, List, [], ◌∷◌, length, nat_le, if◌then◌else◌, Option, Some, None, is_some, Result, Ok, String, string_bytes, ⊤}
 use Rattle.std.specs.declared.alloc.Global.{Global}
 use Rattle.std.specs.Cmp.Lexicographic.{slice_cmp}
@@ -28,7 +29,7 @@ place_of c = record { value = view c.value.now; path = c.path }
 abbrev pub named_place : String Global × Cursor → List ℕ × Place
 named_place m = (string_bytes m.0, place_of m.1)
 
--- A null field is an absent field.
+-- What a field of that path holds; a null field is an absent field.
 abbrev pub present : List ℕ → Option Data → Option Place
 present path None = None
 present path (Some d) = if is_some (as_null d) then None else Some (record { value = d; path = path })
@@ -46,7 +47,7 @@ count_of at = do
 -- The field of that name, if it is there.
 unfoldable pub field_of : List ℕ → Place → Result (Option Place) Refusal
 field_of name at = do
-  _ ← want (WrongType at.path) (is_some (as_object at.value))
+  _ ← object_of at
   Ok (present (member_path at.path name) (get name at.value))
 
 -- The field of that name, which must be there.

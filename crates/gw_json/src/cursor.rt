@@ -52,7 +52,7 @@ impl<'v> Cursor<'v> {
     }
 
     /// The field of that name; an absent one and one that is null are alike.
-    #[tactic(auto, unfolding(crate::specs::Fields::object_of, crate::specs::Fields::field_of))]
+    #[tactic(auto, unfolding(crate::specs::Fields::field_of))]
     pub fn get(&self, alloc: Global, name: &str) -> Result<Option<Cursor<'v>>, Refusal>
         ensures { Gives (option_map place_of) result (field_of name.now (place_of self.now)) }
     {
@@ -165,6 +165,7 @@ impl<'v> Cursor<'v> {
     }
 }
 
+// One cursor for each item, with its path.
 fn item_cursors<'v>(
     alloc: Global,
     path: &Path,
@@ -182,6 +183,7 @@ fn item_cursors<'v>(
     Ok(cursors)
 }
 
+// One cursor for each member, with its name and path; a map keeps its keys in order.
 fn member_cursors<'v>(
     alloc: Global,
     path: &Path,

@@ -1,11 +1,13 @@
-//! JSON as the readers of Kubernetes objects see it: a line becomes a value, a value's fields are read one after
-//! another, each with its path, and the first that is not as it must be gives the refusal. Whole lines are printed here
-//! too.
+//! JSON as the readers of Kubernetes objects see it: a line becomes a value, the value's fields are
+//! read one after another, each with its path, and the first that is not as it must be gives the
+//! refusal. Values are printed as lines here too.
 #![tactic(auto)]
 
 mod cursor;
 mod line;
 mod refusal;
+#[cfg(test)]
+mod tests;
 
 pub use cursor::Cursor;
 pub use line::{MAX_LINE, push_line, read_value};

@@ -1,4 +1,3 @@
-use Rattle.std.proofs.Common.{◌≡◌, true, false}
 use Rattle.gw_json.proofs.LineLemmas.{value_of-read, value_of-refused}
 use Rattle.gw_json.proofs.line.read_value.Goals as goal
 
