@@ -1,19 +1,17 @@
 -- The text of a moment names the moment.
-use Rattle.std.proofs.Common.{◌≡◌, ℕ, ◌+◌, ◌-◌, ◌*◌, ◌/◌, ◌%◌, ◌<◌, ◌≤◌, List, [], ◌∷◌, ◌++◌, Bool, true, false, ◌&&◌, if◌then◌else◌, nat_lt, codes, refl, sym, ap, subst, ◌∙◌, arith, rules, Some, None, ℤ, pos, neg_ℤ, ◌+ℤ◌, ◌-ℤ◌, ◌*ℤ◌, ◌≤ℤ◌, unsigned_abs, length}
-use Rattle.std.specs.Prelude.{zip}
-use Rattle.std.specs.List.{list_all}
+use Rattle.std.proofs.Common.{◌≡◌, ℕ, ◌+◌, ◌-◌, ◌*◌, ◌/◌, ◌%◌, ◌<◌, ◌≤◌, List, Bool, true, ◌&&◌, refl, ap, subst, ◌∙◌, arith, Some, ℤ, pos, ◌+ℤ◌, ◌-ℤ◌, unsigned_abs}
 use Rattle.std.specs.Char.{is_ascii_digit}
 use Rattle.std.specs.Int.{is_in_range, IsInRange}
 use Rattle.std.proofs.lemmas.Bool.Decides.{nat_tests}
-use Rattle.jiff_core.specs.Calendar.{days_from_civil, days_in_month}
+use Rattle.jiff_core.specs.Calendar.{days_in_month}
 use Rattle.jiff_core.specs.Date.{epoch_day}
 use Rattle.jiff_core.specs.Time.{time_seconds}
 use Rattle.jiff_core.specs.declared.civil.date.Date.{Date as CivilDate}
 use Rattle.jiff_core.specs.declared.civil.time.Time.{Time}
 use Rattle.jiff_core.proofs.SignedLemmas.{signed_arith}
 use Rattle.jiff_core.proofs.CalendarLemmas.{days_from_civil-day_count, days_in_month_bounds}
-use Rattle.gw_text.specs.Civil.{date_of, civil}
-use Rattle.gw_text.specs.model.Moments.{Date, Civil, is_date, is_clock, clock_seconds, seconds_of, fits, has_form, two_at, civil_of, second_of, first_second, last_second, nearest, date_after, two_digits, civil_text, civil_after, second_text}
+use Rattle.gw_text.specs.Civil.{civil}
+use Rattle.gw_text.specs.model.Moments.{Date, Civil, is_date, is_clock, seconds_of, has_form, civil_of, second_of, first_second, nearest, date_after, civil_text, civil_after, second_text}
 use Rattle.gw_text.proofs.Calendar.{IsDay, date_after_is, date_of-date_after}
 
 -- What the calendar and the clock show is what the count of seconds gives.

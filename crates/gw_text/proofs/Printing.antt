@@ -1,5 +1,5 @@
 -- How a text is printed that is UTF-8, and one that isn't.
-use Rattle.std.proofs.Common.{◌≡◌, ℕ, List, Bool, true, false, refl, encode_utf8_all}
+use Rattle.std.proofs.Common.{◌≡◌, ℕ, List, true, false, refl, encode_utf8_all}
 use Rattle.std.specs.Str.{IsUtf8, is_utf8}
 use Rattle.std.proofs.lemmas.Str.{IsUtf8-from_is_utf8, is_utf8-from_IsUtf8}
 use Rattle.gw_text.specs.model.Forms.{printed}

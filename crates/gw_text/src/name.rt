@@ -49,7 +49,7 @@ impl Model for Name {
 impl Name {
     /// The name, if the text is the name of an object.
     pub fn parse(alloc: Global, s: &str) -> Result<Self, TextFault>
-        ensures { Parses (if forms.is_name s.now then Some s.now else None) result }
+        ensures { Parses (forms.name_of s.now) result }
     {
         if !is_name(s.as_bytes()) {
             return Err(TextFault::Bad);

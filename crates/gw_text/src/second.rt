@@ -21,9 +21,10 @@ impl Model for Second {
     ghost inverse = { λ z. record { 0 = z } };
 }
 
-// 0001-01-01T00:00:00Z and 9999-12-31T23:59:59Z.
+// 0001-01-01T00:00:00Z.
 const FIRST: i64 = -62_135_596_800;
 
+// 9999-12-31T23:59:59Z.
 const LAST: i64 = 253_402_300_799;
 
 // The seconds of a day.

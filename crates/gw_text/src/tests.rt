@@ -79,47 +79,58 @@ fn forms_at_their_limits(rt: HostRuntime) -> Result<(), Fail> {
 }
 
 #[test]
-fn names_hosts_and_keys_are_parsed_and_printed(rt: HostRuntime) -> Result<(), Fail> {
-    let alloc = rt.alloc();
-    let name = Name::parse(alloc, "web.v1")?;
+fn names_are_parsed(rt: HostRuntime) -> Result<(), Fail> {
+    let name = Name::parse(rt.alloc(), "web.v1")?;
     assert_eq!(rt; name.text().as_str(), Some("web.v1"));
-    assert_eq!(rt; Name::parse(alloc, "web/v1").err(), Some(TextFault::Bad));
+    assert_eq!(rt;
+        Name::parse(rt.alloc(), "web/v1").err(),
+        Some(TextFault::Bad)
+    );
+    Ok(())
+}
 
-    for (text, wild, rest) in [
-        ("example.com", false, "example.com"),
-        ("*.example.com", true, "example.com"),
-    ] {
-        let host = Host::parse(alloc, text)?;
+#[test]
+fn hostnames_are_parsed_and_printed(rt: HostRuntime) -> Result<(), Fail> {
+    for (text, wild) in [("example.com", false), ("*.example.com", true)] {
+        let host = Host::parse(rt.alloc(), text)?;
         assert_eq!(rt; host.wild, wild);
-        assert_eq!(rt; host.text.as_str(), Some(rest));
-        assert_eq!(rt; host.copy(alloc)?.print(alloc)?.as_str(), Some(text));
+        assert_eq!(rt; host.text.as_str(), Some("example.com"));
+        assert_eq!(rt; host.print(rt.alloc())?.as_str(), Some(text));
     }
-    assert_eq!(rt; Host::parse(alloc, "*").err(), Some(TextFault::Bad));
+    assert_eq!(rt; Host::parse(rt.alloc(), "*").err(), Some(TextFault::Bad));
+    Ok(())
+}
 
-    let key = Key::parse(alloc, "shop/web.v1")?;
+const NO_KEYS: [&str; 9] = [
+    "",
+    "/",
+    "web",
+    "/web",
+    "shop/",
+    "shop/web/v1",
+    "shop.eu/web",
+    "shop//web",
+    "Shop/web",
+];
+
+#[test]
+fn keys_are_parsed_and_printed(rt: HostRuntime) -> Result<(), Fail> {
+    let key = Key::parse(rt.alloc(), "shop/web.v1")?;
     assert_eq!(rt; key.namespace.as_str(), Some("shop"));
     assert_eq!(rt; key.name.as_str(), Some("web.v1"));
-    assert_eq!(rt; key.print(alloc)?.as_str(), Some("shop/web.v1"));
-    assert!(rt; key.is(&key.copy(alloc)?));
-    for text in [
-        "",
-        "/",
-        "web",
-        "/web",
-        "shop/",
-        "shop/web/v1",
-        "shop.eu/web",
-        "shop//web",
-        "Shop/web",
-        "shop/*",
-    ] {
+    assert_eq!(rt; key.print(rt.alloc())?.as_str(), Some("shop/web.v1"));
+    Ok(())
+}
+
+#[test]
+fn texts_that_are_no_keys(rt: HostRuntime) {
+    for text in NO_KEYS {
         assert_eq!(rt;
-            Key::parse(alloc, text).err(),
+            Key::parse(rt.alloc(), text).err(),
             Some(TextFault::Bad),
             "{text}"
         );
     }
-    Ok(())
 }
 
 // Namespaces and names in the order of their texts: `-`, `.`, `/`, digits, letters.
@@ -199,17 +210,27 @@ fn moments_are_parsed_and_printed(rt: HostRuntime) -> Result<(), Fail> {
         assert_eq!(rt; Second::parse(text), Some(Second(seconds)), "{text}");
         assert_eq!(rt; Second(seconds).print(rt.alloc())?.as_str(), Some(text));
     }
+    Ok(())
+}
+
+#[test]
+fn texts_that_name_no_moment(rt: HostRuntime) {
     for text in NO_MOMENTS {
         assert_eq!(rt; Second::parse(text), None, "{text}");
     }
-    let first = "0001-01-01T00:00:00Z";
-    let last = "9999-12-31T23:59:59Z";
-    for (seconds, text) in [
-        (i64::MIN, first),
-        (-62_135_596_801, first),
-        (253_402_300_800, last),
-        (i64::MAX, last),
-    ] {
+}
+
+// Moments before the first and after the last that print.
+const FAR: [(i64, &str); 4] = [
+    (i64::MIN, "0001-01-01T00:00:00Z"),
+    (-62_135_596_801, "0001-01-01T00:00:00Z"),
+    (253_402_300_800, "9999-12-31T23:59:59Z"),
+    (i64::MAX, "9999-12-31T23:59:59Z"),
+];
+
+#[test]
+fn far_moments_print_as_the_nearest(rt: HostRuntime) -> Result<(), Fail> {
+    for (seconds, text) in FAR {
         assert_eq!(rt;
             Second(seconds).print(rt.alloc())?.as_str(),
             Some(text),

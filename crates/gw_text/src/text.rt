@@ -33,6 +33,7 @@ impl Text {
         Ok(Text { bytes })
     }
 
+    /// The bytes, without a copy.
     pub fn from_vec(bytes: Vec<u8>) -> Self
         ensures { result ≡ bytes.items }
     {

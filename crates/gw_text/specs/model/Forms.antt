@@ -31,6 +31,10 @@ is_label t = nat_le (length t) 63 && list_all is_label_byte t && has_alphanumeri
 abbrev pub is_name : List ℕ → Bool
 is_name t = nat_le (length t) 253 && list_all (λ b. is_label_byte b || is_dot b) t && has_alphanumeric_ends t
 
+-- The name that a text gives.
+abbrev pub name_of : List ℕ → Option (List ℕ)
+name_of t = if is_name t then Some t else None
+
 -- The name of a namespace is one label.
 abbrev pub is_namespace : List ℕ → Bool
 is_namespace t = is_label t

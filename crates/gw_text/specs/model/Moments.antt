@@ -39,6 +39,7 @@ seconds_of c = days_from_civil (pos c.date.year) c.date.month c.date.day *ℤ po
 abbrev pub fits : ℕ → ℕ → Bool
 fits template b = if template == 48 then is_ascii_digit b else (template == b)
 
+-- The text is as long as the template, and fits it byte by byte.
 abbrev pub has_form : List ℕ → Bool
 has_form t = (length t == 20) && list_all (λ p. fits p.0 p.1) (zip (codes "0000-00-00T00:00:00Z") t)
 
@@ -86,6 +87,7 @@ date_after (suc n) = next_day (date_after n)
 abbrev pub two_digits : ℕ → List ℕ
 two_digits n = (48 + n / 10) ∷ (48 + n % 10) ∷ []
 
+-- The text of a day and a time of day.
 abbrev pub civil_text : Civil → List ℕ
 civil_text c =
     two_digits (c.date.year / 100) ++ two_digits (c.date.year % 100) ++ codes "-" ++ two_digits c.date.month ++ codes "-" ++ two_digits c.date.day

@@ -1,9 +1,9 @@
-use Rattle.std.proofs.Common.{◌≡◌, ◌++◌, refl, rules, append_assoc}
+use Rattle.std.proofs.Common.{◌≡◌, refl, rules}
 use Rattle.std.specs.Ordering.{nat_cmp}
 use Rattle.std.proofs.lemmas.Iterator.{YieldsList-from_slice}
 use Rattle.std.proofs.lemmas.Iterator.Consumers.{YieldsList-from_chain}
 use Rattle.std.proofs.lemmas.Iterator.Search.{cmp_from_yields_List}
-use Rattle.gw_text.specs.model.Names.{joined, separator}
+use Rattle.gw_text.specs.model.Names.{separator}
 use Rattle.gw_text.proofs.key.Key.compare.Goals as goal
 
 pub returns : goal.returns
