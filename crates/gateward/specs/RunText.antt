@@ -7,7 +7,7 @@ use Rattle.serde_json.specs.View.{items_of}
 use Rattle.gw_json.specs.Lines.{line_of}
 use Rattle.gw_text.specs.model.Forms.{printed}
 use Rattle.gw_text.specs.model.Objects.{Listener, Gateway}
-use Rattle.gw_text.specs.model.Held.{objects}
+use Rattle.gw_text.specs.model.Held.{Held}
 use Rattle.gw_text.specs.model.World.{World, Put, world_of, after_puts, is_managed, attached_routes}
 use Rattle.gw_link.specs.Moments.{TicksInTurn}
 use Rattle.gw_store.specs.Form.{answer, first_number}
@@ -73,8 +73,8 @@ gateway_data attached g = gateway_object (printed g.name) (map (listener_data at
 abbrev pub gateway_text : World → Gateway → List ℕ
 gateway_text w g = if is_managed controller w g then line_of (gateway_data (attached_routes w g) g) else []
 
-abbrev pub gateways_text : World → List Gateway → List ℕ
-gateways_text w gateways = flat_map (gateway_text w) gateways
+abbrev pub gateways_text : World → List (Held Gateway) → List ℕ
+gateways_text w gateways = flat_map (λ h. gateway_text w h.object) gateways
 
 -- The last line.
 abbrev pub summary_data : ℕ → ℕ → Data
@@ -88,7 +88,7 @@ unfoldable pub text_of_lines : List (List ℕ) → List ℤ → List ℕ
 text_of_lines lines moments =
     let world = world_of (puts lines moments) in
     refused_text (refusals_from 1 lines)
-    ++ gateways_text world (objects world.gateways)
+    ++ gateways_text world world.gateways
     ++ line_of (summary_data (length (filter is_change lines)) (length (refusals_from 1 lines)))
 
 abbrev pub status_text : List ℕ → List ℤ → List ℕ

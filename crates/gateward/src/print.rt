@@ -3,7 +3,6 @@ ghost use Rattle.serde_json.specs.View.{view};
 ghost use Rattle.serde_json.specs.Written.{has_float};
 ghost use Rattle.gw_json.specs.Lines.{line_of};
 ghost use Rattle.gw_text.specs.model.World.{is_managed};
-ghost use Rattle.gw_text.specs.model.Held.{objects};
 ghost use Rattle.gateward.specs.RunText.{controller, refused_data, listener_data, gateway_object, gateway_data, gateway_text, gateways_text, summary_data};
 
 use gw_json::push_line;
@@ -85,11 +84,11 @@ fn push_gateway(alloc: Global, world: &World, gateway: &Gateway, text: &mut Stri
 
 /// Adds the lines of the managed Gateways in key order.
 pub fn push_gateways(alloc: Global, world: &World, text: &mut String) -> Result<(), NoMemory>
-    ensures { OnOk result (string_bytes text.new ≡ string_bytes text.old ++ gateways_text world.now.world (objects world.now.world.gateways)) }
+    ensures { OnOk result (string_bytes text.new ≡ string_bytes text.old ++ gateways_text world.now.world world.now.world.gateways) }
 {
-    let gateways = world.gateways();
-    'gateways: for gateway in gateways {
-        push_gateway(alloc, world, gateway, text)?;
+    let rows = world.gateways();
+    'rows: for row in rows {
+        push_gateway(alloc, world, &row.object, text)?;
     }
     Ok(())
 }

@@ -1,5 +1,5 @@
 -- What an event says, and the plain form of objects that the first release takes.
-use Rattle.std.specs.Prelude.{ℕ, List, [], ◌∷◌, length, codes, bytes_eq, nat_eq, nat_lt, Bool, true, false, not, ◌&&◌, ◌||◌, if◌then◌else◌, Option, Some, None, option_and_then, option_map, is_some, Result, Ok, Err, ⊤, map}
+use Rattle.std.specs.Prelude.{ℕ, List, [], ◌∷◌, length, codes, bytes_eq, nat_eq, nat_lt, Bool, true, not, ◌&&◌, if◌then◌else◌, Option, Some, None, option_and_then, is_some, Result, Ok, Err, ⊤}
 use Rattle.std.specs.List.{list_any}
 use Rattle.serde_json.specs.Data.{Data}
 use Rattle.serde_json.specs.Find.{get, as_str, as_object}

@@ -8,5 +8,5 @@ mod world;
 
 pub use form::{read_object, refusal_number};
 pub use plain::{Class, Gateway, Listener, Object, Route};
-pub use table::{Keyed, Table};
+pub use table::{Keyed, Row, Table};
 pub use world::World;

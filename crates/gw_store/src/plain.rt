@@ -1,7 +1,8 @@
-ghost use Rattle.std.specs.Prelude.{◌≡◌};
+ghost use Rattle.std.specs.Prelude.{◌≡◌, IfOk};
 
 use crate::table::Keyed;
-use gw_text::Text;
+use gw_text::{NoMemory, Text};
+use std::alloc::Global;
 use std::marker::Model;
 
 /// A GatewayClass.
@@ -68,12 +69,16 @@ impl Keyed for Gateway {
     }
 }
 
-/// An HTTPRoute.
+/// An HTTPRoute. It is one pointer wide, since Routes are many, and an insertion moves those behind it.
 #[derive(Drop)]
 pub struct Route {
-    pub name: Text,
-    /// The names of the Gateways that its parentRefs name, in list order.
-    pub parents: Vec<Text>,
+    fields: Box<Fields>,
+}
+
+#[derive(Drop)]
+struct Fields {
+    name: Text,
+    parents: Vec<Text>,
 }
 
 impl Model for Route {
@@ -81,14 +86,30 @@ impl Model for Route {
 
     ghost Value = { Plain };
 
-    ghost view = { λ r. record { name = r.name; parents = r.parents.items } };
+    ghost view = { λ r. record { name = r.fields.value.name; parents = r.fields.value.parents.items } };
+}
+
+impl Route {
+    pub fn new(alloc: Global, name: Text, parents: Vec<Text>) -> Result<Self, NoMemory>
+        ensures { IfOk result (λ r. r ≡ record { name = name; parents = parents.items }) }
+    {
+        let fields = Box::new(alloc, Fields { name, parents })?;
+        Ok(Route { fields })
+    }
+
+    /// The names of the Gateways that its parentRefs name, in list order.
+    pub fn parents(&self) -> &[Text]
+        ensures { result.now ≡ self.now.parents }
+    {
+        self.fields.parents.as_slice()
+    }
 }
 
 impl Keyed for Route {
     ghost key = { λ r. r.name };
 
     fn key(&self) -> &[u8] {
-        self.name.bytes()
+        self.fields.name.bytes()
     }
 }
 

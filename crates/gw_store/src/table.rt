@@ -1,6 +1,6 @@
 ghost use Rattle.std.specs.Prelude.{◌≡◌, ℕ, ◌+◌, ◌-◌, ◌<◌, ◌≤◌, List, [], length, map, OnOk, OnErr, MatchResult, option_map, option_copied};
 ghost use Rattle.std.specs.List.Sorted.{IsSearchInRange};
-ghost use Rattle.gw_text.specs.model.Held.{put, held_of, objects, key_order, IsInKeyOrder};
+ghost use Rattle.gw_text.specs.model.Held.{put, held_of, key_order, IsInKeyOrder};
 ghost use Rattle.gw_store.specs.Table.{StandsAt, IsMissingAt};
 
 use gw_text::{NoMemory, Second};
@@ -16,29 +16,37 @@ pub trait Keyed {
         ensures { result.now ≡ key self.now };
 }
 
-/// The objects of one kind in key order, each with the moment at which its key was first put.
+/// An object as it is held, with the moment at which its key was first put.
+#[derive(Drop)]
+pub struct Row<T: Drop> {
+    pub object: T,
+    pub first: Second,
+}
+
+impl<T: Drop> Model for Row<T> {
+    ghost use Rattle.gw_text.specs.model.Held.{Held};
+
+    ghost Value = { Held T };
+
+    ghost view = { λ r. record { object = r.object; first = r.first } };
+}
+
+/// The objects of one kind in key order.
 #[derive(Drop)]
 pub struct Table<T: Keyed + Drop> {
-    objects: Vec<T>,
-    firsts: Vec<Second>,
+    rows: Vec<Row<T>>,
 }
 
 impl<T: Keyed + Drop> Model for Table<T> {
-    ghost use Rattle.std.specs.Prelude.{◌≡◌, ◌-◌, length, min, vec_len, vec_capacity};
+    ghost use Rattle.std.specs.Prelude.{◌-◌, vec_len, vec_capacity};
     ghost use Rattle.gw_text.specs.model.Held.{IsInKeyOrder};
-    ghost use Rattle.gw_store.specs.Table.{Rows, held};
+    ghost use Rattle.gw_store.specs.Table.{Rows};
 
     ghost Value = { Rows T };
 
-    ghost view = { λ t. record {
-      held = held t.objects.items t.firsts.items;
-      spare = min (vec_capacity t.objects - vec_len t.objects) (vec_capacity t.firsts - vec_len t.firsts);
-    } };
+    ghost view = { λ t. record { held = t.rows.items; spare = vec_capacity t.rows - vec_len t.rows } };
 
-    ghost invariant = { λ t. record {
-      alike : length t.objects.items ≡ length t.firsts.items;
-      ordered : IsInKeyOrder T.key t.objects.items;
-    } };
+    ghost invariant = { λ t. IsInKeyOrder T.key t.rows.items };
 }
 
 impl<T: Keyed + Drop> Table<T> {
@@ -47,8 +55,7 @@ impl<T: Keyed + Drop> Table<T> {
         ensures { result.held ≡ [] }
     {
         Table {
-            objects: Vec::new(alloc),
-            firsts: Vec::new(alloc),
+            rows: Vec::new(alloc),
         }
     }
 
@@ -57,53 +64,49 @@ impl<T: Keyed + Drop> Table<T> {
         ensures held { self.new.held ≡ self.old.held }
         ensures ok { OnOk result (0 < self.new.spare) }
     {
-        self.objects.reserve(1)?;
-        self.firsts.reserve(1)
+        self.rows.reserve(1)
     }
 
-    /// The objects in key order.
-    pub fn objects(&self) -> &[T]
-        ensures { result.now ≡ objects self.now.held }
+    /// The held objects in key order.
+    pub fn rows(&self) -> &[Row<T>]
+        ensures { result.now ≡ self.now.held }
     {
-        self.objects.as_slice()
+        self.rows.as_slice()
     }
 
-    /// Holds `object` under its key, in place of the one that is held there.
+    /// Holds `object` under its key, in place of the one that is held there, whose first moment stays.
     pub fn put(&mut self, object: T, now: Second)
         requires { 0 < self.old.spare }
         ensures { self.new.held ≡ put T.key object now self.old.held }
     {
-        match place(self.objects.as_slice(), object.key()) {
-            Ok(at) => self.objects[at] = object,
-            Err(at) => {
-                self.objects.insert(at, object).unwrap();
-                self.firsts.insert(at, now).unwrap();
-            }
+        match place(self.rows.as_slice(), object.key()) {
+            Ok(at) => self.rows[at].object = object,
+            Err(at) => self.rows.insert(at, Row { object, first: now }).unwrap(),
         }
     }
 
     /// The object that is held under `key`.
-    pub fn get(&self, key: &[u8]) -> Option<&T>
-        ensures { option_copied result ≡ option_map (λ h. h.object) (held_of T.key key.now self.now.held) }
+    pub fn get(&self, key: &[u8]) -> Option<&Row<T>>
+        ensures { option_copied result ≡ held_of T.key key.now self.now.held }
     {
-        match place(self.objects.as_slice(), key) {
-            Ok(at) => Some(&self.objects[at]),
+        match place(self.rows.as_slice(), key) {
+            Ok(at) => Some(&self.rows[at]),
             Err(_) => None,
         }
     }
 }
 
 // Where the object of `key` stands, or where it would stand.
-fn place<T: Keyed>(objects: &[T], key: &[u8]) -> Result<usize, usize>
-    requires { IsInKeyOrder T.key objects.now }
-    ensures range { IsSearchInRange result (length objects.now) }
-    ensures place { MatchResult result (StandsAt T.key key.now objects.now) (IsMissingAt T.key key.now objects.now) }
+fn place<T: Keyed + Drop>(rows: &[Row<T>], key: &[u8]) -> Result<usize, usize>
+    requires { IsInKeyOrder T.key rows.now }
+    ensures range { IsSearchInRange result (length rows.now) }
+    ensures place { MatchResult result (StandsAt T.key key.now rows.now) (IsMissingAt T.key key.now rows.now) }
 {
-    objects.binary_search_by(|object| compare(object, key))
+    rows.binary_search_by(|row| compare(row, key))
 }
 
-fn compare<T: Keyed>(object: &T, key: &[u8]) -> Ordering
-    ensures { result ≡ key_order (T.key object.now) key.now }
+fn compare<T: Keyed + Drop>(row: &Row<T>, key: &[u8]) -> Ordering
+    ensures { result ≡ key_order (T.key row.now.object) key.now }
 {
-    object.key().cmp(&key)
+    row.object.key().cmp(&key)
 }

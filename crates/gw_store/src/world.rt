@@ -1,11 +1,10 @@
 ghost use Rattle.std.specs.Prelude.{◌≡◌, ℕ, ◌<◌, ◌≤◌, OnOk, OnErr, count_by, bytes_eq};
-ghost use Rattle.gw_text.specs.model.Held.{objects};
 ghost use Rattle.gw_text.specs.model.World.{nothing, put_object, is_managed, attached_routes};
 ghost use Rattle.std.specs.List.{list_any};
 ghost use Rattle.gw_store.specs.Seen.{seen};
 
 use crate::plain::{Class, Gateway, Object, Route};
-use crate::table::Table;
+use crate::table::{Row, Table};
 use gw_text::{NoMemory, Second, Text};
 use std::alloc::Global;
 use std::marker::Model;
@@ -65,10 +64,10 @@ impl World {
     }
 
     /// The Gateways in the order of their names.
-    pub fn gateways(&self) -> &[Gateway]
-        ensures { result.now ≡ objects self.now.world.gateways }
+    pub fn gateways(&self) -> &[Row<Gateway>]
+        ensures { result.now ≡ self.now.world.gateways }
     {
-        self.gateways.objects()
+        self.gateways.rows()
     }
 
     /// Whether the Gateway's class is held and names this controller.
@@ -77,7 +76,7 @@ impl World {
         ensures { result ≡ is_managed controller.now self.now.world gateway.now }
     {
         match self.classes.get(gateway.class.bytes()) {
-            Some(class) => class.controller.bytes() == controller,
+            Some(row) => row.object.controller.bytes() == controller,
             None => false,
         }
     }
@@ -87,21 +86,23 @@ impl World {
     pub fn attached_routes(&self, gateway: &Gateway) -> usize
         ensures { result ≡ attached_routes self.now.world gateway.now }
     {
-        count_attached(gateway.name.bytes(), self.routes.objects())
+        count_attached(gateway.name.bytes(), self.routes.rows())
     }
 }
 
-fn count_attached(gateway: &[u8], routes: &[Route]) -> usize
-    ensures { result ≡ count_by (λ r. list_any (bytes_eq gateway.now) r.parents) routes.now }
+fn count_attached(gateway: &[u8], rows: &[Row<Route>]) -> usize
+    ensures { result ≡ count_by (λ h. list_any (bytes_eq gateway.now) h.object.parents) rows.now }
 {
-    routes
-        .iter()
-        .filter(|route| is_attached(gateway, route))
+    rows.iter()
+        .filter(|row| is_attached(gateway, &row.object))
         .count()
 }
 
 fn is_attached(gateway: &[u8], route: &Route) -> bool
     ensures { result ≡ list_any (bytes_eq gateway.now) route.now.parents }
 {
-    route.parents.iter().any(|parent| gateway == parent.bytes())
+    route
+        .parents()
+        .iter()
+        .any(|parent| gateway == parent.bytes())
 }

@@ -10,10 +10,6 @@ pub record Held (T : Type 0) : Type 0 where
   pub object : T
   pub first : ℤ
 
--- The objects alone, in the same order.
-abbrev pub objects : {T : Type 0} → List (Held T) → List T
-objects held = map (λ h. h.object) held
-
 -- Keys are compared as texts, byte by byte.
 abbrev pub key_order : List ℕ → List ℕ → Ordering
 key_order = slice_cmp nat_cmp
@@ -34,5 +30,5 @@ put key x now held =
     ∷ filter (λ h. is_gt (key_order (key h.object) (key x))) held
 
 -- Each key stands before those after it, so none stands twice.
-abbrev pub IsInKeyOrder : {T : Type 0} → (T → List ℕ) → List T → Type 0
-IsInKeyOrder key objects = IsStrictlySortedBy key_order (map key objects)
+abbrev pub IsInKeyOrder : {T : Type 0} → (T → List ℕ) → List (Held T) → Type 0
+IsInKeyOrder key held = IsStrictlySortedBy key_order (map (λ h. key h.object) held)

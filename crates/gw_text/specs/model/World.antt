@@ -3,7 +3,7 @@ use Rattle.std.specs.Prelude.{ℕ, ℤ, List, [], Bool, ◌&&◌, bytes_eq, fold
 use Rattle.std.specs.List.{list_any}
 use Rattle.std.specs.Option.{option_map_or}
 use Rattle.gw_text.specs.model.Objects.{Class, Gateway, Route, Object, a_class, a_gateway, a_route}
-use Rattle.gw_text.specs.model.Held.{Held, objects, held_of, put}
+use Rattle.gw_text.specs.model.Held.{Held, held_of, put}
 
 -- The held objects, kind by kind, each in the order of the names.
 pub record World : Type 0 where
@@ -43,4 +43,4 @@ is_attached g r = list_any (bytes_eq g.name) r.parents
 
 -- How many of the held Routes are attached to the Gateway: each Route counts once, whatever the number of its parentRefs.
 unfoldable pub attached_routes : World → Gateway → ℕ
-attached_routes w g = count_by (is_attached g) (objects w.routes)
+attached_routes w g = count_by (λ h. is_attached g h.object) w.routes
