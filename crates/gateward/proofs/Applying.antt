@@ -47,14 +47,15 @@ asked_on before between after (now ∷ first) second here later = (here.0, (here
 -- the puts of one line more
 puts_more : (line : List ℕ) (lines : List (List ℕ)) (w : World) (first second : List ℤ) → length first ≡ length (filter is_asked (line ∷ [])) → after_puts w (puts (line ∷ lines) (first ++ second)) ≡ after_puts (after_puts w (puts (line ∷ []) first)) (puts lines second)
 puts_more line lines w first second each = elim (is_asked line) as (λ b. is_asked line ≡ b → after_puts w (puts (line ∷ lines) (first ++ second)) ≡ after_puts (after_puts w (puts (line ∷ []) first)) (puts lines second)) [
-    true ↦ λ asked. puts_asked asked first (rw asked at each)
+  | true ↦ λ asked. puts_asked asked first (rw asked at each)
   | false ↦ λ blank. puts_blank blank first (rw blank at each)
-  ] refl
+] refl
   where
     puts_asked : is_asked line ≡ true → (ms : List ℤ) → length ms ≡ 1 → after_puts w (puts (line ∷ lines) (ms ++ second)) ≡ after_puts (after_puts w (puts (line ∷ []) ms)) (puts lines second)
     puts_asked asked [] each = absurd (omega arith)
     puts_asked asked (now ∷ []) each = rw asked (after_first w (put_of (line, now)) (puts lines second))
     puts_asked asked (now ∷ then ∷ ms) each = absurd (omega arith)
+
     puts_blank : is_asked line ≡ false → (ms : List ℤ) → length ms ≡ 0 → after_puts w (puts (line ∷ lines) (ms ++ second)) ≡ after_puts (after_puts w (puts (line ∷ []) ms)) (puts lines second)
     puts_blank blank [] each = rw blank refl
     puts_blank blank (now ∷ ms) each = absurd (omega arith)
@@ -62,11 +63,11 @@ puts_more line lines w first second each = elim (is_asked line) as (λ b. is_ask
 -- a line, and then the others
 pub applies_more : (line : List ℕ) (lines : List (List ℕ)) (before between after : Option (List ℤ)) (old mid new : World) → Applies (line ∷ []) before between old mid → Applies lines between after mid new → Applies (line ∷ lines) before after old new
 applies_more line lines before between after old mid new here later = record {
-    moments = here.moments ++ later.moments;
-    asked = asked_on before between after here.moments later.moments here.asked later.asked;
-    each = rw (length-append, here.each, later.each) (sym (ap length (filter-append is_asked (line ∷ []) lines) ∙ length-append _ _));
-    world = later.world ∙ ap (λ w. after_puts w (puts lines later.moments)) here.world ∙ sym (puts_more line lines old here.moments later.moments here.each);
-  }
+  moments = here.moments ++ later.moments;
+  asked = asked_on before between after here.moments later.moments here.asked later.asked;
+  each = rw (length-append, here.each, later.each) (sym (ap length (filter-append is_asked (line ∷ []) lines) ∙ length-append _ _));
+  world = later.world ∙ ap (λ w. after_puts w (puts lines later.moments)) here.world ∙ sym (puts_more line lines old here.moments later.moments here.each);
+}
 
 -- the text of one more refused line, and how many they are
 pub refused_text-cons : (r : Option Refused) (rs : List Refused) → refused_text (cons_option r rs) ≡ refused_text (cons_option r []) ++ refused_text rs

@@ -22,5 +22,6 @@ fn line_end(text: &[u8]) -> Option<usize>
 pub fn is_blank(line: &[u8]) -> bool
     ensures { result ≡ lines.is_blank line.now }
 {
-    line.iter().all(|b| *b == b' ' || *b == b'\t' || *b == b'\r')
+    line.iter()
+        .all(|b| *b == b' ' || *b == b'\t' || *b == b'\r')
 }

@@ -38,5 +38,14 @@ fn main(rt: HostRuntime) -> ExitCode {
     };
     let mut source = StdSource::new(rt.stdin());
     let mut sink = StdSink::new(io::writer(&rt));
-    ExitCode::from(run::run(alloc, words.as_slice(), &mut source, &mut sink, WallClock::new(rt)))
+    ExitCode::from(run::run(
+        alloc,
+        words.as_slice(),
+        &mut source,
+        &mut sink,
+        WallClock::new(rt),
+    ))
 }
+
+#[cfg(test)]
+mod tests;

@@ -35,7 +35,11 @@ fn listener_value(alloc: Global, attached: u64, listener: &Listener) -> Result<V
     json!(in alloc; {"attachedRoutes": attached, "name": name.as_str()})
 }
 
-fn listener_values(alloc: Global, attached: u64, listeners: &[Listener]) -> Result<Vec<Value>, NoMemory>
+fn listener_values(
+    alloc: Global,
+    attached: u64,
+    listeners: &[Listener],
+) -> Result<Vec<Value>, NoMemory>
     ensures { IfOk result (λ v. map view v.items ≡ map (listener_data attached) listeners.now) }
 {
     let mut values = Vec::new(alloc);
@@ -66,14 +70,24 @@ fn is_ours(world: &World, gateway: &Gateway) -> bool
 }
 
 #[tactic(auto, using(crate::proofs::Floats::gateway_has_no_float))]
-fn push_listeners(alloc: Global, attached: u64, gateway: &Gateway, text: &mut String) -> Result<(), NoMemory>
+fn push_listeners(
+    alloc: Global,
+    attached: u64,
+    gateway: &Gateway,
+    text: &mut String,
+) -> Result<(), NoMemory>
     ensures { OnOk result (string_bytes text.new ≡ string_bytes text.old ++ line_of (gateway_data attached gateway.now)) }
 {
     let value = gateway_value(alloc, attached, gateway)?;
     push_line(alloc, text, &value)
 }
 
-fn push_gateway(alloc: Global, world: &World, gateway: &Gateway, text: &mut String) -> Result<(), NoMemory>
+fn push_gateway(
+    alloc: Global,
+    world: &World,
+    gateway: &Gateway,
+    text: &mut String,
+) -> Result<(), NoMemory>
     ensures { OnOk result (string_bytes text.new ≡ string_bytes text.old ++ gateway_text world.now.world gateway.now) }
 {
     if !is_ours(world, gateway) {

@@ -11,5 +11,5 @@ returns-in-Ok-clause-world g c =
 pub returns-in-Err-clause-world : goal.returns-in-Err-clause-world
 returns-in-Err-clause-world g c =
     on_ok_weaker c.refuse.result
-      (λ named. applies_refused c.args.line.now _ (sym c.is_blank.ensures ∙ c.if-is_blank.false) c.now-now.ensures _ _ _ (fails_is _ _ named c.in-Err.ensures) c.refuse.ensures.world)
-      c.refuse.ensures.named
+    (λ named. applies_refused c.args.line.now _ (sym c.is_blank.ensures ∙ c.if-is_blank.false) c.now-now.ensures _ _ _ (fails_is _ _ named c.in-Err.ensures) c.refuse.ensures.world)
+    c.refuse.ensures.named
