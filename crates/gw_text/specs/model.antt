@@ -2,3 +2,4 @@
 pub mod Names
 pub mod Hostnames
 pub mod Paths
+pub mod Picks
