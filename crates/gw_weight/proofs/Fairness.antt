@@ -1,5 +1,5 @@
 -- Picks made one after the other are fair.
-use Rattle.std.proofs.Common.{◌≡◌, ◌≢◌, ℕ, ◌+◌, ◌*◌, ◌<◌, ◌≤◌, ◌%◌, cond, eqb, ◌⊎◌, inl, inr, List, [], ◌∷◌, ◌++◌, length, take, sum, get_or, refl, sym, ap, subst, ◌∙◌, arith, suc, zero, Some, None, Option, add-one}
+use Rattle.std.proofs.Common.{◌≡◌, ◌≢◌, ℕ, ◌+◌, ◌*◌, ◌<◌, ◌≤◌, ◌%◌, cond, eqb, inl, inr, List, [], ◌∷◌, ◌++◌, length, take, sum, get_or, refl, sym, ap, subst, ◌∙◌, arith, suc, zero, Some, None, Option, add-one}
 use Rattle.std.proofs.Math.Nat.{add-mul-mod_self_right, mod-eq_of_lt}
 use Rattle.std.proofs.lemmas.Bool.{cases_eq, cases_lt}
 use Rattle.std.proofs.lemmas.Int.{ints}
@@ -8,7 +8,7 @@ use Rattle.std.proofs.lemmas.List.Sums.{fold_more, get_or-le-sum_by, sum_by_more
 use Rattle.std.proofs.lemmas.Option.{slice_get-get_or}
 use Rattle.std.specs.List.{find, list_all, range_with_len, slice_get}
 use Rattle.std.specs.Prelude.{ℤ, pos, ◌-ℤ◌, int_le}
-use Rattle.gw_text.specs.model.Picks.{AreFair, ArePicks, IsKept, after_pick, claim, counted, drawn_after, pick, pick_after, times, zeros}
+use Rattle.gw_text.specs.model.Picks.{AreFair, ArePicks, IsKept, after_pick, claim, counted, drawn_after, pick, times, zeros}
 use Rattle.gw_weight.proofs.Claims.{Picked, after_pick-counted, after_pick-over, counted-IsKept, counted-full, counted-get, pick-Picked, sum-counted, sum-zeros, zeros-IsKept, zeros-get}
 
 -- after k picks: the rounds that are over, and the numbers since

@@ -1,5 +1,5 @@
 -- Paths of requests: which of them a PathPrefix fits, and what stands in the place of a prefix.
-use Rattle.std.specs.Prelude.{◌≡◌, ℕ, Bool, IsTrue, List, [], ◌∷◌, ◌++◌, ◌-◌, ◌==◌, nat_eq, length, take, drop, codes, if◌then◌else◌}
+use Rattle.std.specs.Prelude.{◌≡◌, ℕ, Bool, List, [], ◌∷◌, ◌++◌, ◌-◌, ◌==◌, nat_eq, length, take, drop, codes, if◌then◌else◌}
 use Rattle.std.specs.List.{slice_split, starts_with, ends_with}
 use Rattle.std.specs.Str.{bytes_eq}
 

@@ -1,7 +1,8 @@
 -- The weighted pick, a round robin whose picks are spread as evenly as the weights allow. That weights are shares of
 -- their sum is BackendRef.weight of the Gateway API reference; which pick is the next is this project's choice.
-use Rattle.std.specs.Prelude.{◌≡◌, ◌≢◌, ℕ, ◌+◌, ◌*◌, ◌%◌, ◌<◌, ◌≤◌, Bool, ◌&&◌, ◌||◌, ◌==◌, nat_lt, ℤ, pos, ◌-ℤ◌, int_le, List, [], ◌∷◌, ◌++◌, Option, None, Some, IfSome, if◌then◌else◌, length, sum, count_by, find, fold, take, replicate, slice_index, slice_get, slice_set}
-use Rattle.std.specs.List.{range_with_len, list_all, list_any}
+use Rattle.std.specs.Prelude.{◌≡◌, ℕ, ◌+◌, ◌*◌, ◌%◌, ◌<◌, ◌≤◌, Bool, ◌&&◌, ◌||◌, ◌==◌, nat_lt, ℤ, pos, ◌-ℤ◌, int_le, List, [], ◌∷◌, Option, None, Some, if◌then◌else◌, length, sum, count_by, find, fold, take, replicate, slice_index, slice_get, slice_set, is_some, unwrap_or}
+use Rattle.std.specs.List.{range_with_len, list_all}
+use Rattle.std.specs.Map.{lookup}
 use Rattle.std.specs.Str.{bytes_eq}
 use Rattle.gw_text.specs.model.Names.{Key}
 
@@ -63,3 +64,37 @@ pub record AreFair (weights picks : List ℕ) : Type 0 where
   pub near : (k i : ℕ) → k ≤ length picks → times picks k i * sum weights < k * slice_index weights i + sum weights
   pub exact : (k i : ℕ) → k ≤ length picks → k % sum weights ≡ 0 → times picks k i * sum weights ≡ k * slice_index weights i
   pub next : (k : ℕ) → k < length picks → pick_after weights k (times picks k) ≡ slice_get picks k
+
+-- What picks are counted for: the backends of a Route's rule, or the endpoints of a Service's port.
+pub record Choice : Type 0 where
+  pub name : Key
+  pub number : ℕ
+  pub weights : List ℕ
+
+abbrev pub same_choice : Choice → Choice → Bool
+same_choice c d =
+    bytes_eq c.name.namespace d.name.namespace && bytes_eq c.name.name d.name.name && c.number == d.number && bytes_eq c.weights d.weights
+
+-- Whether a book, the list of its choices with their numbers, keeps numbers of a choice.
+abbrev pub holds : Choice → List (Choice × List ℕ) → Bool
+holds c book = is_some (lookup (same_choice c) book)
+
+-- The numbers of a choice in a book; one that isn't there has numbers 0.
+abbrev pub numbers_of : Choice → List (Choice × List ℕ) → List ℕ
+numbers_of c book = unwrap_or (lookup (same_choice c) book) (zeros c.weights)
+
+-- The book with these numbers of a choice, which keeps its place or comes last.
+abbrev pub with_numbers : Choice → List ℕ → List (Choice × List ℕ) → List (Choice × List ℕ)
+with_numbers c drawn [] = (c, drawn) ∷ []
+with_numbers c drawn (e ∷ book) = if same_choice c e.0 then (e.0, drawn) ∷ book else e ∷ with_numbers c drawn book
+
+-- A book is emptied exactly where a new choice comes while it holds 4,096.
+abbrev pub with_room : Choice → List (Choice × List ℕ) → List (Choice × List ℕ)
+with_room c book = if holds c book || nat_lt (length book) 4096 then book else []
+
+-- The pick of a choice, and the book after it.
+abbrev pub drawn_from : Choice → List (Choice × List ℕ) → Option ℕ
+drawn_from c book = pick c.weights (numbers_of c book)
+
+abbrev pub after_draw : Choice → List (Choice × List ℕ) → List (Choice × List ℕ)
+after_draw c book = with_numbers c (after_pick c.weights (numbers_of c book) (drawn_from c book)) (with_room c book)

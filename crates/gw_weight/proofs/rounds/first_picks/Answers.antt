@@ -1,5 +1,5 @@
 -- Each pick is the next over the numbers so far, and whatever the picks, they are fair.
-use Rattle.std.proofs.Common.{◌≡◌, ◌++◌, ◌∷◌, [], ap, ◌∙◌, sym, subst, arith, Some, refl}
+use Rattle.std.proofs.Common.{◌≡◌, ◌++◌, ◌∷◌, [], ap, ◌∙◌, sym, subst, arith, Some}
 use Rattle.std.proofs.lemmas.List.Sums.{fold_push}
 use Rattle.gw_text.specs.model.Picks.{Shares, ArePicks, after_pick, drawn_after, pick, zeros}
 use Rattle.gw_weight.proofs.Fairness.{ArePicks-fair, ArePicks-push}

@@ -1,8 +1,8 @@
 -- The pick's number is below its weight, so it takes one more; at the end of a round the numbers are the weights.
-use Rattle.std.proofs.Common.{◌≡◌, ◌<◌, ◌≤◌, ◌+◌, ◌≢◌, ap, ◌∙◌, sym, subst, arith, length, sum, get_or, set, replicate, Some, refl}
+use Rattle.std.proofs.Common.{◌≡◌, ◌<◌, ◌+◌, ◌≢◌, ap, ◌∙◌, sym, arith, length, sum, set, replicate, Some, refl}
 use Rattle.std.proofs.lemmas.List.{get_or_read, length-set, with_items_is}
 use Rattle.std.specs.Vec.{with_item}
-use Rattle.gw_text.specs.model.Picks.{Shares, pick, counted, zeros, after_pick}
+use Rattle.gw_text.specs.model.Picks.{counted, zeros, after_pick}
 use Rattle.gw_weight.proofs.Claims.{inside-Picked, counted-IsKept, pick-below_weight, sum-counted, after_pick-over, Shares-after, length-zeros}
 use Rattle.gw_weight.proofs.shares.Shares.count.Goals as goal
 

@@ -1,5 +1,5 @@
-use Rattle.std.proofs.Common.{◌≡◌, ◌*◌, ◌^◌, ◌<◌, ◌≤◌, rules, arith, sum, length, sym, subst, ap, ◌∙◌}
-use Rattle.gw_text.specs.model.Picks.{zeros, IsKept}
+use Rattle.std.proofs.Common.{◌≡◌, ◌*◌, ◌≤◌, rules, sum, length, sym, subst}
+use Rattle.gw_text.specs.model.Picks.{zeros}
 use Rattle.gw_weight.proofs.Claims.{zeros-IsKept, sum-small, sum-zeros}
 use Rattle.gw_weight.proofs.shares.Shares.new.Goals as goal
 

@@ -1,5 +1,5 @@
 -- The numbers after a pick are kept as those before.
-use Rattle.std.proofs.Common.{◌≡◌, subst, sym, sum, get_or}
+use Rattle.std.proofs.Common.{subst, sym, sum, get_or}
 use Rattle.gw_text.specs.model.Picks.{Shares, IsKept}
 use Rattle.gw_weight.proofs.Claims.{after_pick-IsKept, counted-full, pick-Picked}
 use Rattle.gw_weight.proofs.shares.Shares.next.Goals as goal
