@@ -1,9 +1,11 @@
 -- What contracts speak of: objects, counts and lists as plain records, a file for each subject.
-pub mod Names
+pub mod Forms
+pub mod Held
 pub mod Hostnames
 pub mod Meta
-pub mod Objects
-pub mod Held
-pub mod Forms
 pub mod Moments
+pub mod Names
+pub mod Objects
+pub mod Paths
+pub mod Picks
 pub mod World

@@ -1,0 +1,131 @@
+// Which paths an Exact or a PathPrefix match fits, and the path with its matched prefix replaced.
+#![tactic(auto)]
+
+ghost use Rattle.std.specs.Prelude.{◌≡◌, ◌↔◌, IfOk, IsTrue};
+ghost use Rattle.gw_text.specs.model.Paths.{BeginsWithPrefix, EndsElement, is_path_prefix, path_or_root, rooted, with_prefix_replaced, without_slash};
+
+use gw_text::{NoMemory, Text};
+use std::alloc::Global;
+
+/// Whether a match of type Exact fits. Case counts.
+pub fn exact_fits(value: &[u8], path: &[u8]) -> bool
+    ensures { IsTrue result ↔ (value.now ≡ path.now) }
+{
+    value == path
+}
+
+/// Whether a match of type PathPrefix fits: `/abc` and `/abc/` fit `/abc`, `/abc/` and `/abc/def`, and not `/abcd`.
+pub fn prefix_fits(value: &[u8], path: &[u8]) -> bool
+    ensures elements { result ≡ is_path_prefix value.now path.now }
+    ensures bytes { IsTrue result ↔ BeginsWithPrefix value.now path.now }
+{
+    match path.strip_prefix(trimmed(value)) {
+        Some(rest) => ends_element(rest),
+        None => false,
+    }
+}
+
+/// The path with `with` in the place of `prefix`, as ReplacePrefixMatch asks for. It is never empty.
+pub fn replace_prefix(
+    alloc: Global,
+    path: &[u8],
+    prefix: &[u8],
+    with: &[u8],
+) -> Result<Text, NoMemory>
+    requires { IsTrue (is_path_prefix prefix.now path.now) }
+    ensures { IfOk result (λ text. text ≡ with_prefix_replaced path.now prefix.now with.now) }
+{
+    let (_, rest) = path.split_at(trimmed(prefix).len());
+    let mut replaced = to_rooted(alloc, trimmed(with))?;
+    replaced.extend_from_slice(rest)?;
+    if replaced.is_empty() {
+        return Text::from_bytes(alloc, b"/");
+    }
+    Text::from_bytes(alloc, replaced.as_slice())
+}
+
+fn ends_element(rest: &[u8]) -> bool
+    ensures { IsTrue result ↔ EndsElement rest.now }
+{
+    rest.is_empty() || rest.starts_with(b"/")
+}
+
+fn trimmed(value: &[u8]) -> &[u8]
+    ensures { result.now ≡ without_slash value.now }
+{
+    if value.ends_with(b"/") {
+        &value[..value.len() - 1]
+    } else {
+        value
+    }
+}
+
+fn to_rooted(alloc: Global, text: &[u8]) -> Result<Vec<u8>, NoMemory>
+    ensures { IfOk result (λ path. path.items ≡ rooted text.now) }
+{
+    let mut path = Vec::new(alloc);
+    if !text.is_empty() && !text.starts_with(b"/") {
+        path.push(b'/')?;
+    }
+    path.extend_from_slice(text)?;
+    Ok(path)
+}
+
+#[cfg(test)]
+mod tests {
+    use super::*;
+    use std::test::Fail;
+
+    #[test]
+    fn fits_paths(rt: HostRuntime) {
+        for (value, path, exact, prefix) in [
+            ("/abc", "/abc", true, true),
+            ("/abc", "/abc/", false, true),
+            ("/abc", "/abc/def", false, true),
+            ("/abc", "/abcd", false, false),
+            ("/abc", "/ABC", false, false),
+            ("/abc", "/ab", false, false),
+            ("/abc/", "/abc", false, true),
+            ("/abc/", "/abc/def", false, true),
+            ("/abc/", "/abcd", false, false),
+            ("/", "/", true, true),
+            ("/", "/abc", false, true),
+            ("/aaa/bbb", "/aaa/bbb/ccc", false, true),
+            ("/aaa/bbb", "/aaa/bbbxyz", false, false),
+            ("/aaa/bbb", "/aaa", false, false),
+        ] {
+            let (value, path) = (value.as_bytes(), path.as_bytes());
+            assert_eq!(rt; exact_fits(value, path), exact, "{value:?} on {path:?}");
+            assert_eq!(rt; prefix_fits(value, path), prefix, "{value:?} on {path:?}");
+        }
+    }
+
+    // The examples of ReplacePrefixMatch, and a replacement without a slash.
+    #[test]
+    fn replaces_prefixes(rt: HostRuntime) -> Result<(), Fail> {
+        for (path, prefix, with, wanted) in [
+            ("/foo/bar", "/foo", "/xyz", "/xyz/bar"),
+            ("/foo/bar", "/foo", "/xyz/", "/xyz/bar"),
+            ("/foo/bar", "/foo/", "/xyz", "/xyz/bar"),
+            ("/foo/bar", "/foo/", "/xyz/", "/xyz/bar"),
+            ("/foo", "/foo", "/xyz", "/xyz"),
+            ("/foo/", "/foo", "/xyz", "/xyz/"),
+            ("/foo/bar", "/foo", "", "/bar"),
+            ("/foo/", "/foo", "", "/"),
+            ("/foo", "/foo", "", "/"),
+            ("/foo/", "/foo", "/", "/"),
+            ("/foo", "/foo", "/", "/"),
+            ("/foo/bar", "/foo", "xyz", "/xyz/bar"),
+        ] {
+            let (path, prefix) = (path.as_bytes(), prefix.as_bytes());
+            assert!(rt; prefix_fits(prefix, path), "{prefix:?} on {path:?}");
+            let replaced = replace_prefix(rt.alloc(), path, prefix, with.as_bytes())?;
+            assert_eq!(rt;
+                replaced.bytes(),
+                wanted.as_bytes(),
+                "{prefix:?} on {path:?}"
+            );
+        }
+        Ok(())
+    }
+}
