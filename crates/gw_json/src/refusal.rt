@@ -1,5 +1,5 @@
 //! Why a line was refused, and at which field.
-ghost use Rattle.std.specs.Prelude.{◌≡◌, ◌↔◌, ◌++◌, [], IsTrue, IfOk, option_map};
+ghost use Rattle.std.specs.Prelude.{◌≡◌, ◌↔◌, ◌++◌, [], IsTrue, IfOk, option_map, string_bytes};
 ghost use Rattle.gw_json.specs.declared.refusal.Refusal.TheVariants.{NoMemory};
 ghost use Rattle.gw_json.specs.Refusals.{refusal_number, refusal_path};
 ghost use Rattle.gw_json.specs.Paths.{member_path, item_path};
@@ -54,20 +54,29 @@ impl Path {
         if self.is_empty() {
             return Path::of(alloc, name);
         }
-        let path = self.as_str();
-        Ok(Path {
-            text: format!(in alloc; "{path}.{name}")?,
-        })
+        let mut text = self.with_room(alloc, name.len())?;
+        text.push('.')?;
+        text.push_str(name)?;
+        Ok(Path { text })
     }
 
     /// The path of the item `index` of the list at this path; the first item has the index 0.
     pub fn item(&self, alloc: Global, index: usize) -> Result<Path, AllocError>
         ensures { IfOk result (λ p. p ≡ item_path self.now index) }
     {
-        let path = self.as_str();
-        Ok(Path {
-            text: format!(in alloc; "{path}[{index}]")?,
-        })
+        let mut text = self.with_room(alloc, 4)?;
+        write!(text, "[{index}]")?;
+        Ok(Path { text })
+    }
+
+    // The text once more, with room for so many bytes and one.
+    fn with_room(&self, alloc: Global, more: usize) -> Result<String, AllocError>
+        ensures { IfOk result (λ text. string_bytes text ≡ self.now) }
+    {
+        let room = self.text.len().saturating_add(more).saturating_add(1);
+        let mut text = String::with_capacity(alloc, room)?;
+        text.push_str(self.text.as_str())?;
+        Ok(text)
     }
 }
 

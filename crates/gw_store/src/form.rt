@@ -66,7 +66,7 @@ fn name(alloc: Global, at: &Cursor<'_>) -> Result<Text, Refusal>
     if !is_name(text.as_bytes()) {
         return Err(at.bad_value(alloc)?);
     }
-    Ok(Text::of(alloc, text.as_str())?)
+    Ok(Text::from_vec(text.into_bytes()))
 }
 
 #[tactic(auto, unfolding(crate::specs::Form::name_field_of))]
@@ -81,7 +81,7 @@ fn word_field(alloc: Global, field: &str, at: &Cursor<'_>) -> Result<Text, Refus
     ensures { Gives (λ t. t) result (form.word_field_of field.now (place_of at.now)) }
 {
     let text = at.need(alloc, field)?.text(alloc, 512)?;
-    Ok(Text::of(alloc, text.as_str())?)
+    Ok(Text::from_vec(text.into_bytes()))
 }
 
 #[tactic(auto, unfolding(crate::specs::Form::port_of))]
