@@ -109,6 +109,7 @@ impl<'v> Cursor<'v> {
         }
     }
 
+    /// True or false, which no text or number stands for.
     #[tactic(auto, unfolding(crate::specs::Fields::truth_of))]
     pub fn truth(&self, alloc: Global) -> Result<bool, Refusal>
         ensures { Gives (λ b. b) result (truth_of (place_of self.now)) }

@@ -21,6 +21,7 @@ impl std::marker::Model for Path {
 }
 
 impl Path {
+    /// The path of this text.
     pub fn of(alloc: Global, text: &str) -> Result<Path, AllocError>
         ensures { IfOk result (λ p. p ≡ text.now) }
     {
@@ -29,18 +30,21 @@ impl Path {
         })
     }
 
+    /// The text that is printed.
     pub fn as_str(&self) -> &str
         ensures { result.now ≡ self.now }
     {
         self.text.as_str()
     }
 
+    /// Whether it is the path of the object itself.
     pub fn is_empty(&self) -> bool
         ensures { IsTrue result ↔ (self.now ≡ []) }
     {
         self.text.is_empty()
     }
 
+    /// The same path once more.
     pub fn copied(&self, alloc: Global) -> Result<Path, AllocError>
         ensures { IfOk result (λ p. p ≡ self.now) }
     {

@@ -23,6 +23,7 @@ impl Model for MemClock {
 }
 
 impl MemClock {
+    /// Gives these moments in turn, and the last one again once they are used up; 0 where there is none.
     pub fn new(moments: Vec<Second>) -> Self
         ensures { result ≡ record { left = moments.items; last = pos 0 } }
     {

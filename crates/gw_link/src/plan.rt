@@ -18,6 +18,7 @@ impl Model for Plan {
 }
 
 impl Plan {
+    /// The calls with these numbers fail, the first call being 0.
     pub(crate) fn new(fails: Vec<u64>) -> Self
         ensures { result ≡ first_call fails.items }
     {
@@ -28,6 +29,7 @@ impl Plan {
         }
     }
 
+    /// How many calls have failed.
     pub(crate) fn faults(&self) -> u64
         ensures { result ≡ self.now.faults }
     {
@@ -41,12 +43,14 @@ impl Plan {
         self.fails.contains(&self.next)
     }
 
+    /// Counts a call that did what it is for.
     pub(crate) fn pass(&mut self)
         ensures { self.new ≡ after_pass self.old }
     {
         self.next = self.next.saturating_add(1);
     }
 
+    /// Counts a call that failed.
     pub(crate) fn fail(&mut self)
         ensures { self.new ≡ after_fail self.old }
     {

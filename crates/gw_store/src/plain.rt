@@ -90,6 +90,7 @@ impl Model for Route {
 }
 
 impl Route {
+    /// A Route of this name.
     pub fn new(alloc: Global, name: Text, parents: Vec<Text>) -> Result<Self, NoMemory>
         ensures { IfOk result (λ r. r ≡ record { name = name; parents = parents.items }) }
     {

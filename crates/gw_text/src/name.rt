@@ -58,6 +58,7 @@ impl Name {
         Ok(Name { text })
     }
 
+    /// The name as a text.
     pub fn text(&self) -> &Text
         ensures value { result.now ≡ self.now }
         ensures form { IsTrue (forms.is_name self.now) }

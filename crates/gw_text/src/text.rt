@@ -26,6 +26,7 @@ impl Text {
         Text::from_bytes(alloc, s.as_bytes())
     }
 
+    /// Any bytes.
     pub fn from_bytes(alloc: Global, b: &[u8]) -> Result<Self, AllocError>
         ensures { IfOk result (λ text. text ≡ b.now) }
     {
@@ -40,12 +41,14 @@ impl Text {
         Text { bytes }
     }
 
+    /// The bytes, in UTF-8 or not.
     pub fn bytes(&self) -> &[u8]
         ensures { result.now ≡ self.now }
     {
         self.bytes.as_slice()
     }
 
+    /// The text, where the bytes are UTF-8.
     pub fn as_str(&self) -> Option<&str>
         ensures utf8 { IsSome result ↔ IsUtf8 self.now }
         ensures value { IfSome result (λ s. s.now ≡ self.now) }

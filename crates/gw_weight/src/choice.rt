@@ -1,10 +1,10 @@
-ghost use Rattle.std.specs.Prelude.{◌≡◌, ◌≤◌, length, IsOk, IfOk, OnOk, vec_capacity};
+ghost use Rattle.std.specs.Prelude.{◌≡◌, ◌≤◌, [], length, IsOk, IfOk, OnOk, vec_capacity};
 ghost use Rattle.gw_weight.specs.Books.{choice_of, HasRoomFor};
 
 use gw_text::{Key, NoMemory};
 use std::alloc::Global;
 
-// What a book keeps numbers for, as its map stores it.
+/// What a book keeps numbers for, as its map stores it.
 #[derive(Drop, PartialEq, Eq, Hash)]
 pub struct Choice {
     pub namespace: Vec<u8>,
@@ -13,7 +13,10 @@ pub struct Choice {
     pub weights: Vec<u32>,
 }
 
-pub fn empty_choice(alloc: Global) -> Choice {
+/// A choice of nothing, which is refilled for each draw.
+pub fn empty_choice(alloc: Global) -> Choice
+    ensures { (result.namespace.items ≡ []) × (result.name.items ≡ []) × (result.weights.items ≡ []) }
+{
     Choice {
         namespace: Vec::new(alloc),
         name: Vec::new(alloc),
@@ -22,7 +25,7 @@ pub fn empty_choice(alloc: Global) -> Choice {
     }
 }
 
-// Takes memory only where a part is longer than it was before.
+/// Takes memory only where a part is longer than it was before.
 pub fn ask(choice: &mut Choice, name: &Key, number: u64, weights: &[u32]) -> Result<(), NoMemory>
     ensures ok { OnOk result (choice_of choice.new ≡ record { name = name.now; number = number; weights = weights.now }) }
     ensures namespace { vec_capacity choice.old.namespace ≤ vec_capacity choice.new.namespace }
@@ -37,6 +40,7 @@ pub fn ask(choice: &mut Choice, name: &Key, number: u64, weights: &[u32]) -> Res
     Ok(())
 }
 
+/// The same choice once more.
 pub fn copy_of(alloc: Global, choice: &Choice) -> Result<Choice, NoMemory>
     ensures { IfOk result (λ copy. choice_of copy ≡ choice_of choice.now) }
 {
