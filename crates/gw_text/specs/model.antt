@@ -7,3 +7,8 @@ pub mod Held
 pub mod Forms
 pub mod Moments
 pub mod World
+pub mod Fields
+pub mod Matches
+pub mod Filters
+pub mod Routes
+pub mod RouteForms
