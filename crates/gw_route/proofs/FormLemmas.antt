@@ -1,20 +1,31 @@
 -- What std and http_header say of texts, in the words of the forms.
-use Rattle.std.proofs.Common.{◌≡◌, ℕ, List, [], ◌∷◌, ◌++◌, length, drop, Bool, true, false, ◌||◌, Option, None, refl, sym, ap, ◌∙◌, rules, tests, nat_eq}
-use Rattle.std.specs.Bool.{MatchBool}
+use Rattle.std.proofs.Common.{◌≡◌, ℕ, List, [], ◌∷◌, ◌++◌, length, drop, Bool, true, false, ◌↔◌, None, refl, sym, ap, ◌∙◌, rules, tests, nat_eq}
+use Rattle.std.specs.Bool.{MatchBool, IsTrue}
 use Rattle.std.specs.List.{starts_with}
 use Rattle.std.specs.Str.Iter.{HasSubslice}
 use Rattle.std.specs.Str.Pattern.{HasMatch, FindsText}
-use Rattle.std.proofs.lemmas.Bool.{cases_Bool}
+use Rattle.std.proofs.lemmas.Bool.{and_parts, le-leb, leb-true}
+use Rattle.std.proofs.lemmas.List.Sums.{AllPass-from_list_all, list_all-from_AllPass}
 use Rattle.std.proofs.lemmas.Bool.Decides.{Decides-eqb}
 use Rattle.std.proofs.lemmas.Slice.Eq.{starts_is}
 use Rattle.std.proofs.lemmas.Str.Pattern.{contains_text}
 use Rattle.http_header.specs.Token as token
-use Rattle.gw_text.specs.model.RouteForms.{is_token_byte, has}
+use Rattle.http_header.specs.Token.{IsToken}
+use Rattle.gw_text.specs.model.RouteForms.{is_token_byte, is_token, has}
 
--- Both are RFC 9110's tchar.
-pub token_byte_is : (b : ℕ) → token.is_token_byte b ≡ is_token_byte b
+-- Both are RFC 9110's token.
+pub token_is : (r : Bool) (t : List ℕ) → (IsTrue r ↔ IsToken t) → r ≡ is_token t
 unfolding token.is_token_byte is_token_byte
-token_byte_is b = refl
+token_is true t is =
+    let there = is.0 refl in
+    rw (le-leb _ _ there.0, list_all-from_AllPass is_token_byte t there.1) refl
+token_is false t is = by _ refl
+  where
+    by : (b : Bool) → is_token t ≡ b → false ≡ is_token t
+    by true there =
+        let parts = and_parts _ _ there in
+        is.1 (leb-true _ _ parts.0, AllPass-from_list_all is_token_byte t parts.1) ∙ sym there
+    by false none = sym none
 
 has_here : (t part : List ℕ) → starts_with nat_eq t part ≡ true → has t part ≡ true
 has_here [] part here = here

@@ -1,5 +1,5 @@
 -- The backendRefs of a rule, row by row. Source: HTTPBackendRef of the Gateway API reference.
-use Rattle.std.specs.Prelude.{ℕ, List, [], ◌∷◌, codes, bytes_eq, Bool, true, false, ◌&&◌, nat_lt, Option, Some, Result, Ok}
+use Rattle.std.specs.Prelude.{ℕ, List, [], codes, bytes_eq, Bool, true, false, ◌&&◌, nat_lt, Option, Some, Result, Ok}
 use Rattle.serde_json.specs.Events.{items_len}
 use Rattle.serde_json.specs.Find.{as_array}
 use Rattle.gw_json.specs.declared.refusal.Refusal.{Refusal}

@@ -1,5 +1,5 @@
 -- The filters of a rule, row by row. Source: HTTPRouteFilter of the Gateway API reference.
-use Rattle.std.specs.Prelude.{ℕ, List, codes, bytes_eq, if◌then◌else◌, Option, Result, Ok}
+use Rattle.std.specs.Prelude.{ℕ, List, codes, bytes_eq, if◌then◌else◌, Result, Ok}
 use Rattle.gw_json.specs.declared.refusal.Refusal.{Refusal}
 use Rattle.gw_json.specs.Words.{◌>>=◌, each}
 use Rattle.gw_json.specs.Fields.{Place, number_of}

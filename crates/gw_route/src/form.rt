@@ -5,7 +5,6 @@ ghost use Rattle.gw_text.specs.model.RouteForms as forms;
 ghost use Rattle.gw_route.specs.Texts.{most, fits};
 
 use gw_text::{is_name, is_namespace, is_precise_hostname};
-use http_header::is_token_char;
 
 /// What a text has to be like.
 #[derive(Clone, Copy)]
@@ -66,23 +65,16 @@ impl Form {
     }
 }
 
-#[tactic(auto, using(crate::proofs::FormLemmas::token_byte_is))]
-fn is_token_byte(b: u8) -> bool
-    ensures { result ≡ forms.is_token_byte b }
-{
-    is_token_char(b)
-}
-
 fn is_token(text: &[u8]) -> bool
-    ensures { result ≡ list_all forms.is_token_byte text.now }
+    ensures { result ≡ forms.is_token text.now }
 {
-    text.iter().all(|b| is_token_byte(*b))
+    http_header::is_token(text)
 }
 
 fn is_field_name(text: &[u8]) -> bool
     ensures { result ≡ forms.is_field_name text.now }
 {
-    1 <= text.len() && text.len() <= 256 && is_token(text)
+    text.len() <= 256 && is_token(text)
 }
 
 fn is_value_byte(b: u8) -> bool

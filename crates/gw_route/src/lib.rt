@@ -10,6 +10,8 @@ mod matching;
 mod parent;
 mod plain;
 mod route;
+#[cfg(test)]
+mod tests;
 mod words;
 
 pub use plain::{

@@ -7,10 +7,14 @@ use Rattle.std.specs.List.{list_all, list_any, starts_with, ends_with}
 unfoldable pub is_token_byte : ℕ → Bool
 is_token_byte b = is_ascii_alphanumeric b || list_any (λ c. c == b) (codes "!#$%&'*+-.^_`|~")
 
+-- One such byte or more. Source: token of RFC 9110 section 5.6.2.
+abbrev pub is_token : List ℕ → Bool
+is_token t = nat_le 1 (length t) && list_all is_token_byte t
+
 -- The name of a field: a token of at most 256 bytes. Source: RFC 9110 section 5.1, and HTTPHeaderName of the Gateway API
 -- reference.
 abbrev pub is_field_name : List ℕ → Bool
-is_field_name t = nat_le 1 (length t) && nat_le (length t) 256 && list_all is_token_byte t
+is_field_name t = nat_le (length t) 256 && is_token t
 
 -- A byte of a field's value: no control character but the tab, which is 9. Source: RFC 9110 section 5.5.
 abbrev pub is_value_byte : ℕ → Bool
