@@ -129,136 +129,126 @@ fn told(alloc: Global, text: &str) -> Result<String, AllocError> {
     }
 }
 
-// An object with these members at that place.
-fn object(alloc: Global, place: Place, members: &str) -> Result<String, AllocError> {
+// The answer to an object with these members at that place.
+fn told_at(alloc: Global, place: Place, members: &str) -> Result<String, AllocError> {
     let (open, close, _) = place;
-    format!(in alloc; "{{\"spec\":{{{open}{members}{close}}}}}")
+    let line = format!(in alloc; "{{\"spec\":{{{open}{members}{close}}}}}")?;
+    told(alloc, line.as_str())
 }
 
-// A text or list of so many units.
-fn grown(
+// How a refusal at a field of that place is printed; of several fields the last is meant.
+fn refused_at(alloc: Global, number: u8, place: Place, field: &str) -> Result<String, AllocError> {
+    let last = field.rsplit('"').next().unwrap_or(field);
+    format!(in alloc; "{number} {}.{last}", place.2)
+}
+
+// The answer to that value of a field.
+fn told_of(alloc: Global, place: Place, field: &str, value: &str) -> Result<String, AllocError> {
+    let member = format!(in alloc; "\"{field}\":{value}")?;
+    told_at(alloc, place, member.as_str())
+}
+
+// Fields of texts, how a text begins, a unit, and the number of units that is read.
+const LENGTHS: [(Place, &str, &str, &str, usize); 29] = [
+    (PARENT, "group", "", "\u{e9}", 256),
+    (PARENT, "kind", "", "a", 512),
+    (PARENT, "namespace", "", "a", 63),
+    (PARENT, "name", "", "a", 253),
+    (PARENT, "sectionName", "", "a", 253),
+    (PATH, "type", "", "a", 512),
+    (PATH, "value", "/", "a", 1023),
+    (PATH, "type\":\"Exact\",\"value", "/", "a", 1023),
+    (PATH, "type\":\"Other\",\"value", "", "?", 1024),
+    (HEADER, "type", "", "a", 512),
+    (HEADER, "name", "", "a", 256),
+    (HEADER, "value", "", "a", 4096),
+    (QUERY, "type", "", "a", 512),
+    (QUERY, "name", "", " ", 256),
+    (QUERY, "value", "", " ", 1024),
+    (MATCH, "method", "", "a", 512),
+    (FILTER, "type", "", "a", 512),
+    (SET, "name", "", "a", 256),
+    (SET, "value", "", "\u{e9}", 2048),
+    (ADD, "value", "", "a", 4096),
+    (REDIRECT, "scheme", "", "a", 512),
+    (REDIRECT, "hostname", "aa", ".a", 125),
+    (FULL, "type", "", "a", 512),
+    (FULL, "replaceFullPath", "", "a", 1024),
+    (PREFIX, "replacePrefixMatch", "", "a", 1024),
+    (BACKEND, "group", "", "a", 512),
+    (BACKEND, "kind", "", "a", 512),
+    (BACKEND, "name", "", "a", 253),
+    (BACKEND, "namespace", "", "a", 63),
+];
+
+// The answer to a text of so many units.
+fn told_long(
     alloc: Global,
-    before: &str,
-    unit: &str,
+    row: &(Place, &str, &str, &str, usize),
     count: usize,
-    after: &str,
 ) -> Result<String, AllocError> {
-    let mut grown = String::from_str(alloc, before)?;
+    let mut value = format!(in alloc; "\"{}", row.2)?;
     for _ in 0..count {
-        grown.push_str(unit)?;
+        value.push_str(row.3)?;
     }
-    grown.push_str(after)?;
-    Ok(grown)
+    value.push('"')?;
+    told_of(alloc, row.0, row.1, value.as_str())
 }
 
-// As many units as there may be are read, and one more is too long.
+// One unit more is too long.
 #[test]
-fn limits(rt: HostRuntime) -> Result<(), Fail> {
+fn lengths(rt: HostRuntime) -> Result<(), Fail> {
     let alloc = rt.alloc();
-    for (place, field, before, unit, after, most) in [
-        (
-            SPEC,
-            "parentRefs",
-            "[{\"name\":\"g\"}",
-            ",{\"name\":\"g\"}",
-            "]",
-            31,
-        ),
-        (PARENT, "group", "\"", "\u{e9}", "\"", 256),
-        (PARENT, "kind", "\"", "a", "\"", 512),
-        (PARENT, "namespace", "\"", "a", "\"", 63),
-        (PARENT, "name", "\"", "a", "\"", 253),
-        (PARENT, "sectionName", "\"", "a", "\"", 253),
-        (SPEC, "hostnames", "[\"h\"", ",\"h\"", "]", 15),
-        (SPEC, "rules", "[{}", ",{}", "]", 15),
-        (RULE, "matches", "[{}", ",{}", "]", 63),
-        (PATH, "type", "\"", "a", "\"", 512),
-        (PATH, "value", "\"/", "a", "\"", 1023),
-        (PATH, "type\":\"Exact\",\"value", "\"/", "a", "\"", 1023),
-        (PATH, "type\":\"Other\",\"value", "\"", "?", "\"", 1024),
-        (
-            MATCH,
-            "headers",
-            "[{\"name\":\"a\",\"value\":\"\"}",
-            ",{\"name\":\"a\",\"value\":\"\"}",
-            "]",
-            15,
-        ),
-        (HEADER, "type", "\"", "a", "\"", 512),
-        (HEADER, "name", "\"", "a", "\"", 256),
-        (HEADER, "value", "\"", "a", "\"", 4096),
-        (
-            MATCH,
-            "queryParams",
-            "[{\"name\":\"a\",\"value\":\"\"}",
-            ",{\"name\":\"a\",\"value\":\"\"}",
-            "]",
-            15,
-        ),
-        (QUERY, "type", "\"", "a", "\"", 512),
-        (QUERY, "name", "\"", " ", "\"", 256),
-        (QUERY, "value", "\"", " ", "\"", 1024),
-        (MATCH, "method", "\"", "a", "\"", 512),
-        (
-            RULE,
-            "filters",
-            "[{\"type\":\"\"}",
-            ",{\"type\":\"\"}",
-            "]",
-            15,
-        ),
-        (FILTER, "type", "\"", "a", "\"", 512),
-        (
-            REQUEST,
-            "set",
-            "[{\"name\":\"a\",\"value\":\"\"}",
-            ",{\"name\":\"a\",\"value\":\"\"}",
-            "]",
-            15,
-        ),
-        (
-            RESPONSE,
-            "add",
-            "[{\"name\":\"a\",\"value\":\"\"}",
-            ",{\"name\":\"a\",\"value\":\"\"}",
-            "]",
-            15,
-        ),
-        (RESPONSE, "remove", "[\"a\"", ",\"a\"", "]", 15),
-        (SET, "name", "\"", "a", "\"", 256),
-        (SET, "value", "\"", "\u{e9}", "\"", 2048),
-        (ADD, "value", "\"", "a", "\"", 4096),
-        (REDIRECT, "scheme", "\"", "a", "\"", 512),
-        (REDIRECT, "hostname", "\"aa", ".a", "\"", 125),
-        (FULL, "type", "\"", "a", "\"", 512),
-        (FULL, "replaceFullPath", "\"", "a", "\"", 1024),
-        (PREFIX, "replacePrefixMatch", "\"", "a", "\"", 1024),
-        (
-            RULE,
-            "backendRefs",
-            "[{\"name\":\"s\",\"port\":1}",
-            ",{\"name\":\"s\",\"port\":1}",
-            "]",
-            15,
-        ),
-        (BACKEND, "group", "\"", "a", "\"", 512),
-        (BACKEND, "kind", "\"", "a", "\"", 512),
-        (BACKEND, "name", "\"", "a", "\"", 253),
-        (BACKEND, "namespace", "\"", "a", "\"", 63),
-    ] {
-        let member = format!(in alloc; "\"{field}\":{before}")?;
-        let longest = grown(alloc, member.as_str(), unit, most, after)?;
-        let longest = object(alloc, place, longest.as_str())?;
-        assert_eq!(rt; told(alloc, longest.as_str())?.as_str(), "read", "{field}");
-        let longer = grown(alloc, member.as_str(), unit, most + 1, after)?;
-        let longer = object(alloc, place, longer.as_str())?;
-        let last = field.rsplit('"').next().unwrap_or(field);
-        let want = format!(in alloc; "6 {}.{last}", place.2)?;
-        assert_eq!(rt;
-            told(alloc, longer.as_str())?.as_str(),
-            want.as_str(),
-            "{field}"
-        );
+    for row in LENGTHS.iter() {
+        let longest = told_long(alloc, row, row.4)?;
+        assert_eq!(rt; longest.as_str(), "read", "{}", row.1);
+        let longer = told_long(alloc, row, row.4 + 1)?;
+        let want = refused_at(alloc, 6, row.0, row.1)?;
+        assert_eq!(rt; longer.as_str(), want.as_str());
+    }
+    Ok(())
+}
+
+// Fields of lists, an item, and the number of items that is read.
+const COUNTS: [(Place, &str, &str, usize); 11] = [
+    (SPEC, "parentRefs", "{\"name\":\"g\"}", 32),
+    (SPEC, "hostnames", "\"h\"", 16),
+    (SPEC, "rules", "{}", 16),
+    (RULE, "matches", "{}", 64),
+    (MATCH, "headers", "{\"name\":\"a\",\"value\":\"\"}", 16),
+    (MATCH, "queryParams", "{\"name\":\"a\",\"value\":\"\"}", 16),
+    (RULE, "filters", "{\"type\":\"\"}", 16),
+    (REQUEST, "set", "{\"name\":\"a\",\"value\":\"\"}", 16),
+    (RESPONSE, "add", "{\"name\":\"a\",\"value\":\"\"}", 16),
+    (RESPONSE, "remove", "\"a\"", 16),
+    (RULE, "backendRefs", "{\"name\":\"s\",\"port\":1}", 16),
+];
+
+// The answer to a list of so many items and one more.
+fn told_many(
+    alloc: Global,
+    row: &(Place, &str, &str, usize),
+    count: usize,
+) -> Result<String, AllocError> {
+    let mut value = format!(in alloc; "[{}", row.2)?;
+    for _ in 0..count {
+        value.push(',')?;
+        value.push_str(row.2)?;
+    }
+    value.push(']')?;
+    told_of(alloc, row.0, row.1, value.as_str())
+}
+
+// One item more is too long.
+#[test]
+fn counts(rt: HostRuntime) -> Result<(), Fail> {
+    let alloc = rt.alloc();
+    for row in COUNTS.iter() {
+        let most = told_many(alloc, row, row.3 - 1)?;
+        assert_eq!(rt; most.as_str(), "read", "{}", row.1);
+        let more = told_many(alloc, row, row.3)?;
+        let want = refused_at(alloc, 6, row.0, row.1)?;
+        assert_eq!(rt; more.as_str(), want.as_str());
     }
     Ok(())
 }
@@ -280,297 +270,294 @@ const NO_LIST: [&str; 4] = ["true", "80", "\"\"", "{}"];
 
 const NO_OBJECT: [&str; 4] = ["true", "80", "\"\"", "[]"];
 
+// Fields, values of a wrong type, and whether the field is needed.
+const TYPES: [(Place, &str, &[&str], bool); 47] = [
+    (SPEC, "parentRefs", &NO_LIST, false),
+    (PARENT, "group", &NO_TEXT, false),
+    (PARENT, "kind", &NO_TEXT, false),
+    (PARENT, "namespace", &NO_TEXT, false),
+    (PARENT, "name", &NO_TEXT, true),
+    (PARENT, "sectionName", &NO_TEXT, false),
+    (PARENT, "port", &NO_NUMBER, false),
+    (SPEC, "hostnames", &NO_LIST, false),
+    (SPEC, "rules", &NO_LIST, false),
+    (RULE, "matches", &NO_LIST, false),
+    (MATCH, "path", &NO_OBJECT, false),
+    (PATH, "type", &NO_TEXT, false),
+    (PATH, "value", &NO_TEXT, false),
+    (MATCH, "headers", &NO_LIST, false),
+    (HEADER, "type", &NO_TEXT, false),
+    (HEADER, "name", &NO_TEXT, true),
+    (HEADER, "value", &NO_TEXT, true),
+    (MATCH, "queryParams", &NO_LIST, false),
+    (QUERY, "type", &NO_TEXT, false),
+    (QUERY, "name", &NO_TEXT, true),
+    (QUERY, "value", &NO_TEXT, true),
+    (MATCH, "method", &NO_TEXT, false),
+    (RULE, "filters", &NO_LIST, false),
+    (FILTER, "type", &NO_TEXT, true),
+    (REQUEST, "set", &NO_LIST, false),
+    (REQUEST, "add", &NO_LIST, false),
+    (RESPONSE, "remove", &NO_LIST, false),
+    (SET, "name", &NO_TEXT, true),
+    (ADD, "value", &NO_TEXT, true),
+    (REDIRECT, "scheme", &NO_TEXT, false),
+    (REDIRECT, "hostname", &NO_TEXT, false),
+    (REDIRECT, "path", &NO_OBJECT, false),
+    (REDIRECT, "port", &NO_NUMBER, false),
+    (REDIRECT, "statusCode", &NO_NUMBER, false),
+    (REWRITE, "hostname", &NO_TEXT, false),
+    (REWRITE, "path", &NO_OBJECT, false),
+    (FULL, "type", &NO_TEXT, true),
+    (FULL, "replaceFullPath", &NO_TEXT, true),
+    (PREFIX, "replacePrefixMatch", &NO_TEXT, true),
+    (RULE, "backendRefs", &NO_LIST, false),
+    (BACKEND, "group", &NO_TEXT, false),
+    (BACKEND, "kind", &NO_TEXT, false),
+    (BACKEND, "name", &NO_TEXT, true),
+    (BACKEND, "namespace", &NO_TEXT, false),
+    (BACKEND, "port", &NO_NUMBER, true),
+    (BACKEND, "weight", &NO_NUMBER, false),
+    (BACKEND, "filters", &NO_LIST, false),
+];
+
 // A value of another JSON type is refused, and a null field is an absent one.
 #[test]
 fn types(rt: HostRuntime) -> Result<(), Fail> {
     let alloc = rt.alloc();
-    for (place, field, wrong, needed) in [
-        (SPEC, "parentRefs", NO_LIST.as_slice(), false),
-        (PARENT, "group", NO_TEXT.as_slice(), false),
-        (PARENT, "kind", NO_TEXT.as_slice(), false),
-        (PARENT, "namespace", NO_TEXT.as_slice(), false),
-        (PARENT, "name", NO_TEXT.as_slice(), true),
-        (PARENT, "sectionName", NO_TEXT.as_slice(), false),
-        (PARENT, "port", NO_NUMBER.as_slice(), false),
-        (SPEC, "hostnames", NO_LIST.as_slice(), false),
-        (SPEC, "rules", NO_LIST.as_slice(), false),
-        (RULE, "matches", NO_LIST.as_slice(), false),
-        (MATCH, "path", NO_OBJECT.as_slice(), false),
-        (PATH, "type", NO_TEXT.as_slice(), false),
-        (PATH, "value", NO_TEXT.as_slice(), false),
-        (MATCH, "headers", NO_LIST.as_slice(), false),
-        (HEADER, "type", NO_TEXT.as_slice(), false),
-        (HEADER, "name", NO_TEXT.as_slice(), true),
-        (HEADER, "value", NO_TEXT.as_slice(), true),
-        (MATCH, "queryParams", NO_LIST.as_slice(), false),
-        (QUERY, "type", NO_TEXT.as_slice(), false),
-        (QUERY, "name", NO_TEXT.as_slice(), true),
-        (QUERY, "value", NO_TEXT.as_slice(), true),
-        (MATCH, "method", NO_TEXT.as_slice(), false),
-        (RULE, "filters", NO_LIST.as_slice(), false),
-        (FILTER, "type", NO_TEXT.as_slice(), true),
-        (REQUEST, "set", NO_LIST.as_slice(), false),
-        (REQUEST, "add", NO_LIST.as_slice(), false),
-        (RESPONSE, "remove", NO_LIST.as_slice(), false),
-        (SET, "name", NO_TEXT.as_slice(), true),
-        (ADD, "value", NO_TEXT.as_slice(), true),
-        (REDIRECT, "scheme", NO_TEXT.as_slice(), false),
-        (REDIRECT, "hostname", NO_TEXT.as_slice(), false),
-        (REDIRECT, "path", NO_OBJECT.as_slice(), false),
-        (REDIRECT, "port", NO_NUMBER.as_slice(), false),
-        (REDIRECT, "statusCode", NO_NUMBER.as_slice(), false),
-        (REWRITE, "hostname", NO_TEXT.as_slice(), false),
-        (REWRITE, "path", NO_OBJECT.as_slice(), false),
-        (FULL, "type", NO_TEXT.as_slice(), true),
-        (FULL, "replaceFullPath", NO_TEXT.as_slice(), true),
-        (PREFIX, "replacePrefixMatch", NO_TEXT.as_slice(), true),
-        (RULE, "backendRefs", NO_LIST.as_slice(), false),
-        (BACKEND, "group", NO_TEXT.as_slice(), false),
-        (BACKEND, "kind", NO_TEXT.as_slice(), false),
-        (BACKEND, "name", NO_TEXT.as_slice(), true),
-        (BACKEND, "namespace", NO_TEXT.as_slice(), false),
-        (BACKEND, "port", NO_NUMBER.as_slice(), true),
-        (BACKEND, "weight", NO_NUMBER.as_slice(), false),
-        (BACKEND, "filters", NO_LIST.as_slice(), false),
-    ] {
-        for value in wrong {
-            let member = format!(in alloc; "\"{field}\":{value}")?;
-            let line = object(alloc, place, member.as_str())?;
-            let want = format!(in alloc; "4 {}.{field}", place.2)?;
-            assert_eq!(rt;
-                told(alloc, line.as_str())?.as_str(),
-                want.as_str(),
-                "{line}"
-            );
+    for (place, field, wrong, needed) in TYPES.iter() {
+        let want = refused_at(alloc, 4, *place, field)?;
+        for value in wrong.iter() {
+            let told = told_of(alloc, *place, field, value)?;
+            assert_eq!(rt; told.as_str(), want.as_str(), "{value}");
         }
-        let member = format!(in alloc; "\"{field}\":null")?;
-        let line = object(alloc, place, member.as_str())?;
-        let want = if needed {
-            format!(in alloc; "3 {}.{field}", place.2)?
-        } else {
-            String::from_str(alloc, "read")?
-        };
-        assert_eq!(rt;
-            told(alloc, line.as_str())?.as_str(),
-            want.as_str(),
-            "{line}"
-        );
+        let missing = refused_at(alloc, 3, *place, field)?;
+        let want = if *needed { missing.as_str() } else { "read" };
+        let told = told_of(alloc, *place, field, "null")?;
+        assert_eq!(rt; told.as_str(), want, "{field}");
     }
     Ok(())
 }
 
-// Values that a field takes, and values that it refuses as BadValue.
+// Fields, values that they take, and values that they refuse.
+const FORMS: [(Place, &str, &str, &str); 27] = [
+    (PARENT, "group", "\"\" \"\u{e9}\"", ""),
+    (
+        PARENT,
+        "namespace",
+        "\"a\" \"a-1\"",
+        "\"\" \"A\" \"a.b\" \"-a\" \"a-\" \"a_b\"",
+    ),
+    (
+        PARENT,
+        "name",
+        "\"a\" \"1.b-c\"",
+        "\"\" \"A\" \".a\" \"a.\" \"a/b\" \"\u{e9}\"",
+    ),
+    (PARENT, "sectionName", "\"http\"", "\"\" \"Http\""),
+    (PARENT, "port", "1 65535", "0 65536 -1 9223372036854775808"),
+    (PATH, "type", "\"\" \"exact\"", ""),
+    (
+        PATH,
+        "value",
+        "\"/\" \"/a/\" \"/.a\" \"/..a\" \"/a.\" \"/...\" \"/%2e%20\" \"/~!$&'()*+,;=:@\"",
+        "\"\" \"a\" \"/a?b\" \"/a#b\" \"//\" \"/a//b\" \"/./\" \"/a/./b\" \"/../\" \"/a/../b\" \"/a/.\" \"/a/..\" \"/.\" \"/..\" \"/%2f\" \"/a%2Fb\" \"/\\u0020\" \"/\\u007f\" \"/\u{e9}\"",
+    ),
+    (
+        PATH,
+        "type\":\"Exact\",\"value",
+        "\"/a\"",
+        "\"\" \"a\" \"/a//b\" \"/a/..\"",
+    ),
+    (
+        PATH,
+        "type\":\"RegularExpression\",\"value",
+        "\"\" \"a?#\" \"//\" \"\u{e9}\"",
+        "",
+    ),
+    (
+        HEADER,
+        "name",
+        "\"X-a1\" \"!#$%&'*+-.^_`|~\"",
+        "\"\" \"a:\" \"a\\u0020b\" \"a\\\"b\" \"(\" \"\u{e9}\" \"a\\u0000\"",
+    ),
+    (
+        HEADER,
+        "value",
+        "\"\" \"\\u0009\\u0020~\u{e9}\"",
+        "\"\\u0000\" \"a\\u000a\" \"\\u000db\" \"\\u001f\" \"\\u007f\"",
+    ),
+    (QUERY, "name", "\"\\u0000\" \"\u{e9}\"", "\"\""),
+    (QUERY, "value", "\"\" \"\\u0000\"", ""),
+    (MATCH, "method", "\"\" \"get\"", ""),
+    (SET, "name", "\"host\"", "\"\" \"a,b\""),
+    (ADD, "value", "\"\"", "\"a\\u000a\""),
+    (REDIRECT, "scheme", "\"\" \"ftp\"", ""),
+    (
+        REDIRECT,
+        "hostname",
+        "\"a\" \"a.b-c.d\"",
+        "\"\" \"*.a\" \"a..b\" \"-a.b\" \"A\"",
+    ),
+    (REDIRECT, "port", "1 65535", "0 65536"),
+    (REDIRECT, "statusCode", "100 599", "99 600 -1"),
+    (REWRITE, "hostname", "\"a.b\"", "\"*.a.b\""),
+    (
+        FULL,
+        "replaceFullPath",
+        "\"\" \"a\" \"//\" \"/%2f/../~\"",
+        "\"?\" \"#\" \"\\u0020\" \"\\u007f\" \"\u{e9}\"",
+    ),
+    (
+        PREFIX,
+        "replacePrefixMatch",
+        "\"\" \"/./\"",
+        "\"/a?\" \"/#\"",
+    ),
+    (BACKEND, "name", "\"s\"", "\"\" \"S\""),
+    (BACKEND, "namespace", "\"n\"", "\"\" \"n.m\""),
+    (BACKEND, "port", "1 65535", "0 65536"),
+    (BACKEND, "weight", "0 1000000", "1000001 -1"),
+];
+
+// A value out of form or out of range is refused as BadValue.
 #[test]
 fn forms(rt: HostRuntime) -> Result<(), Fail> {
     let alloc = rt.alloc();
-    for (place, field, right, wrong) in [
-        (PARENT, "group", "\"\" \"\u{e9}\"", ""),
-        (
-            PARENT,
-            "namespace",
-            "\"a\" \"a-1\"",
-            "\"\" \"A\" \"a.b\" \"-a\" \"a-\" \"a_b\"",
-        ),
-        (
-            PARENT,
-            "name",
-            "\"a\" \"1.b-c\"",
-            "\"\" \"A\" \".a\" \"a.\" \"a/b\" \"\u{e9}\"",
-        ),
-        (PARENT, "sectionName", "\"http\"", "\"\" \"Http\""),
-        (PARENT, "port", "1 65535", "0 65536 -1 9223372036854775808"),
-        (PATH, "type", "\"\" \"exact\"", ""),
-        (
-            PATH,
-            "value",
-            "\"/\" \"/a/\" \"/.a\" \"/..a\" \"/a.\" \"/...\" \"/%2e%20\" \"/~!$&'()*+,;=:@\"",
-            "\"\" \"a\" \"/a?b\" \"/a#b\" \"//\" \"/a//b\" \"/./\" \"/a/./b\" \"/../\" \"/a/../b\" \"/a/.\" \"/a/..\" \"/.\" \"/..\" \"/%2f\" \"/a%2Fb\" \"/\\u0020\" \"/\\u007f\" \"/\u{e9}\"",
-        ),
-        (
-            PATH,
-            "type\":\"Exact\",\"value",
-            "\"/a\"",
-            "\"\" \"a\" \"/a//b\" \"/a/..\"",
-        ),
-        (
-            PATH,
-            "type\":\"RegularExpression\",\"value",
-            "\"\" \"a?#\" \"//\" \"\u{e9}\"",
-            "",
-        ),
-        (
-            HEADER,
-            "name",
-            "\"X-a1\" \"!#$%&'*+-.^_`|~\"",
-            "\"\" \"a:\" \"a\\u0020b\" \"a\\\"b\" \"(\" \"\u{e9}\" \"a\\u0000\"",
-        ),
-        (
-            HEADER,
-            "value",
-            "\"\" \"\\u0009\\u0020~\u{e9}\"",
-            "\"\\u0000\" \"a\\u000a\" \"\\u000db\" \"\\u001f\" \"\\u007f\"",
-        ),
-        (QUERY, "name", "\"\\u0000\" \"\u{e9}\"", "\"\""),
-        (QUERY, "value", "\"\" \"\\u0000\"", ""),
-        (MATCH, "method", "\"\" \"get\"", ""),
-        (SET, "name", "\"host\"", "\"\" \"a,b\""),
-        (ADD, "value", "\"\"", "\"a\\u000a\""),
-        (REDIRECT, "scheme", "\"\" \"ftp\"", ""),
-        (
-            REDIRECT,
-            "hostname",
-            "\"a\" \"a.b-c.d\"",
-            "\"\" \"*.a\" \"a..b\" \"-a.b\" \"A\"",
-        ),
-        (REDIRECT, "port", "1 65535", "0 65536"),
-        (REDIRECT, "statusCode", "100 599", "99 600 -1"),
-        (REWRITE, "hostname", "\"a.b\"", "\"*.a.b\""),
-        (
-            FULL,
-            "replaceFullPath",
-            "\"\" \"a\" \"//\" \"/%2f/../~\"",
-            "\"?\" \"#\" \"\\u0020\" \"\\u007f\" \"\u{e9}\"",
-        ),
-        (
-            PREFIX,
-            "replacePrefixMatch",
-            "\"\" \"/./\"",
-            "\"/a?\" \"/#\"",
-        ),
-        (BACKEND, "name", "\"s\"", "\"\" \"S\""),
-        (BACKEND, "namespace", "\"n\"", "\"\" \"n.m\""),
-        (BACKEND, "port", "1 65535", "0 65536"),
-        (BACKEND, "weight", "0 1000000", "1000001 -1"),
-    ] {
+    for (place, field, right, wrong) in FORMS.iter() {
         for value in right.split_ascii_whitespace() {
-            let member = format!(in alloc; "\"{field}\":{value}")?;
-            let line = object(alloc, place, member.as_str())?;
-            assert_eq!(rt; told(alloc, line.as_str())?.as_str(), "read", "{line}");
+            let told = told_of(alloc, *place, field, value)?;
+            assert_eq!(rt; told.as_str(), "read", "{field} {value}");
         }
+        let want = refused_at(alloc, 5, *place, field)?;
         for value in wrong.split_ascii_whitespace() {
-            let member = format!(in alloc; "\"{field}\":{value}")?;
-            let line = object(alloc, place, member.as_str())?;
-            let last = field.rsplit('"').next().unwrap_or(field);
-            let want = format!(in alloc; "5 {}.{last}", place.2)?;
-            assert_eq!(rt;
-                told(alloc, line.as_str())?.as_str(),
-                want.as_str(),
-                "{line}"
-            );
+            let told = told_of(alloc, *place, field, value)?;
+            assert_eq!(rt; told.as_str(), want.as_str(), "{value}");
         }
     }
     Ok(())
 }
 
-// Whole objects, of which the first fault in the order of the fields counts.
+const OBJECTS: [(&str, &str); 35] = [
+    (
+        "{\"spec\":{\"hostnames\":[\"*.a.a.a.a.a.a.a.a.a.a.a.a.a.a.a.a.a.a.a.a.a.a.a.a.a.a.a.a.a.a.a.a.a.a.a.a.a.a.a.a.a.a.a.a.a.a.a.a.a.a.a.a.a.a.a.a.a.a.a.a.a.a.a.a.a.a.a.a.a.a.a.a.a.a.a.a.a.a.a.a.a.a.a.a.a.a.a.a.a.a.a.a.a.a.a.a.a.a.a.a.a.a.a.a.a.a.a.a.a.a.a.a.a.a.a.a.a.a.a.a.a.a.a.a.a.a\"]}}",
+        "read",
+    ),
+    (
+        "{\"spec\":{\"hostnames\":[\"*.aa.a.a.a.a.a.a.a.a.a.a.a.a.a.a.a.a.a.a.a.a.a.a.a.a.a.a.a.a.a.a.a.a.a.a.a.a.a.a.a.a.a.a.a.a.a.a.a.a.a.a.a.a.a.a.a.a.a.a.a.a.a.a.a.a.a.a.a.a.a.a.a.a.a.a.a.a.a.a.a.a.a.a.a.a.a.a.a.a.a.a.a.a.a.a.a.a.a.a.a.a.a.a.a.a.a.a.a.a.a.a.a.a.a.a.a.a.a.a.a.a.a.a.a.a.a\"]}}",
+        "6 spec.hostnames[0]",
+    ),
+    ("[]", "4 "),
+    ("{}", "3 spec"),
+    ("{\"spec\":null}", "3 spec"),
+    ("{\"spec\":[]}", "4 spec"),
+    ("{\"spec\":{}}", "read"),
+    (
+        "{\"spec\":{\"rules\":0,\"hostnames\":0,\"parentRefs\":0}}",
+        "4 spec.parentRefs",
+    ),
+    (
+        "{\"spec\":{\"rules\":0,\"hostnames\":0}}",
+        "4 spec.hostnames",
+    ),
+    ("{\"spec\":{\"parentRefs\":[null]}}", "4 spec.parentRefs[0]"),
+    (
+        "{\"spec\":{\"parentRefs\":[{\"name\":\"g\"},{}]}}",
+        "3 spec.parentRefs[1].name",
+    ),
+    (
+        "{\"spec\":{\"parentRefs\":[{\"port\":0,\"namespace\":\"\"}]}}",
+        "5 spec.parentRefs[0].namespace",
+    ),
+    (
+        "{\"spec\":{\"hostnames\":[\"*.a\",\"b.c\",\"*\"]}}",
+        "5 spec.hostnames[2]",
+    ),
+    ("{\"spec\":{\"hostnames\":[\"*.\"]}}", "5 spec.hostnames[0]"),
+    (
+        "{\"spec\":{\"hostnames\":[\"a.*.b\"]}}",
+        "5 spec.hostnames[0]",
+    ),
+    ("{\"spec\":{\"hostnames\":[null]}}", "4 spec.hostnames[0]"),
+    ("{\"spec\":{\"rules\":[null]}}", "4 spec.rules[0]"),
+    (
+        "{\"spec\":{\"rules\":[{\"backendRefs\":0,\"filters\":0,\"matches\":0}]}}",
+        "4 spec.rules[0].matches",
+    ),
+    (
+        "{\"spec\":{\"rules\":[{\"backendRefs\":0,\"filters\":0}]}}",
+        "4 spec.rules[0].filters",
+    ),
+    (
+        "{\"spec\":{\"rules\":[{\"matches\":[null]}]}}",
+        "4 spec.rules[0].matches[0]",
+    ),
+    (
+        "{\"spec\":{\"rules\":[{\"matches\":[{\"method\":0,\"queryParams\":[{}],\"headers\":[{\"name\":\"a\"}]}]}]}}",
+        "3 spec.rules[0].matches[0].headers[0].value",
+    ),
+    (
+        "{\"spec\":{\"rules\":[{\"matches\":[{\"method\":0,\"queryParams\":[{}]}]}]}}",
+        "3 spec.rules[0].matches[0].queryParams[0].name",
+    ),
+    (
+        "{\"spec\":{\"rules\":[{\"filters\":[{}]}]}}",
+        "3 spec.rules[0].filters[0].type",
+    ),
+    (
+        "{\"spec\":{\"rules\":[{\"filters\":[{\"type\":\"RequestHeaderModifier\"}]}]}}",
+        "3 spec.rules[0].filters[0].requestHeaderModifier",
+    ),
+    (
+        "{\"spec\":{\"rules\":[{\"filters\":[{\"type\":\"ResponseHeaderModifier\",\"responseHeaderModifier\":[]}]}]}}",
+        "4 spec.rules[0].filters[0].responseHeaderModifier",
+    ),
+    (
+        "{\"spec\":{\"rules\":[{\"filters\":[{\"type\":\"RequestRedirect\",\"requestRedirect\":null}]}]}}",
+        "3 spec.rules[0].filters[0].requestRedirect",
+    ),
+    (
+        "{\"spec\":{\"rules\":[{\"filters\":[{\"type\":\"URLRewrite\"}]}]}}",
+        "3 spec.rules[0].filters[0].urlRewrite",
+    ),
+    (
+        "{\"spec\":{\"rules\":[{\"filters\":[{\"type\":\"URLRewrite\",\"urlRewrite\":{\"path\":{\"type\":\"Other\",\"replaceFullPath\":0}}}]}]}}",
+        "read",
+    ),
+    (
+        "{\"spec\":{\"rules\":[{\"filters\":[{\"type\":\"RequestMirror\",\"requestHeaderModifier\":0}]}]}}",
+        "read",
+    ),
+    (
+        "{\"spec\":{\"rules\":[{\"filters\":[{\"type\":\"ResponseHeaderModifier\",\"responseHeaderModifier\":{\"remove\":[\"a\",null]}}]}]}}",
+        "4 spec.rules[0].filters[0].responseHeaderModifier.remove[1]",
+    ),
+    (
+        "{\"spec\":{\"rules\":[{\"filters\":[{\"type\":\"ResponseHeaderModifier\",\"responseHeaderModifier\":{\"remove\":[\"\"]}}]}]}}",
+        "5 spec.rules[0].filters[0].responseHeaderModifier.remove[0]",
+    ),
+    (
+        "{\"spec\":{\"rules\":[{\"backendRefs\":[{\"name\":\"s\"}]}]}}",
+        "3 spec.rules[0].backendRefs[0].port",
+    ),
+    (
+        "{\"spec\":{\"rules\":[{\"backendRefs\":[{\"name\":\"s\",\"kind\":\"Pod\"},{\"name\":\"s\",\"group\":\"a\"}]}]}}",
+        "read",
+    ),
+    (
+        "{\"spec\":{\"rules\":[{\"backendRefs\":[{\"port\":0,\"weight\":-1,\"namespace\":\"\",\"name\":\"s\"}]}]}}",
+        "5 spec.rules[0].backendRefs[0].namespace",
+    ),
+    ("{\"spec\":{\"rules\":[{\"timeouts\":0}]}}", "read"),
+];
+
+// Of whole objects the first fault in the order of the fields counts.
 #[test]
 fn objects(rt: HostRuntime) -> Result<(), Fail> {
     let alloc = rt.alloc();
-    for (line, want) in [
-        ("[]", "4 "),
-        ("{}", "3 spec"),
-        ("{\"spec\":null}", "3 spec"),
-        ("{\"spec\":[]}", "4 spec"),
-        ("{\"spec\":{}}", "read"),
-        (
-            "{\"spec\":{\"rules\":0,\"hostnames\":0,\"parentRefs\":0}}",
-            "4 spec.parentRefs",
-        ),
-        (
-            "{\"spec\":{\"rules\":0,\"hostnames\":0}}",
-            "4 spec.hostnames",
-        ),
-        ("{\"spec\":{\"parentRefs\":[null]}}", "4 spec.parentRefs[0]"),
-        (
-            "{\"spec\":{\"parentRefs\":[{\"name\":\"g\"},{}]}}",
-            "3 spec.parentRefs[1].name",
-        ),
-        (
-            "{\"spec\":{\"parentRefs\":[{\"port\":0,\"namespace\":\"\"}]}}",
-            "5 spec.parentRefs[0].namespace",
-        ),
-        (
-            "{\"spec\":{\"hostnames\":[\"*.a\",\"b.c\",\"*\"]}}",
-            "5 spec.hostnames[2]",
-        ),
-        ("{\"spec\":{\"hostnames\":[\"*.\"]}}", "5 spec.hostnames[0]"),
-        (
-            "{\"spec\":{\"hostnames\":[\"a.*.b\"]}}",
-            "5 spec.hostnames[0]",
-        ),
-        ("{\"spec\":{\"hostnames\":[null]}}", "4 spec.hostnames[0]"),
-        ("{\"spec\":{\"rules\":[null]}}", "4 spec.rules[0]"),
-        (
-            "{\"spec\":{\"rules\":[{\"backendRefs\":0,\"filters\":0,\"matches\":0}]}}",
-            "4 spec.rules[0].matches",
-        ),
-        (
-            "{\"spec\":{\"rules\":[{\"backendRefs\":0,\"filters\":0}]}}",
-            "4 spec.rules[0].filters",
-        ),
-        (
-            "{\"spec\":{\"rules\":[{\"matches\":[null]}]}}",
-            "4 spec.rules[0].matches[0]",
-        ),
-        (
-            "{\"spec\":{\"rules\":[{\"matches\":[{\"method\":0,\"queryParams\":[{}],\"headers\":[{\"name\":\"a\"}]}]}]}}",
-            "3 spec.rules[0].matches[0].headers[0].value",
-        ),
-        (
-            "{\"spec\":{\"rules\":[{\"matches\":[{\"method\":0,\"queryParams\":[{}]}]}]}}",
-            "3 spec.rules[0].matches[0].queryParams[0].name",
-        ),
-        (
-            "{\"spec\":{\"rules\":[{\"filters\":[{}]}]}}",
-            "3 spec.rules[0].filters[0].type",
-        ),
-        (
-            "{\"spec\":{\"rules\":[{\"filters\":[{\"type\":\"RequestHeaderModifier\"}]}]}}",
-            "3 spec.rules[0].filters[0].requestHeaderModifier",
-        ),
-        (
-            "{\"spec\":{\"rules\":[{\"filters\":[{\"type\":\"ResponseHeaderModifier\",\"responseHeaderModifier\":[]}]}]}}",
-            "4 spec.rules[0].filters[0].responseHeaderModifier",
-        ),
-        (
-            "{\"spec\":{\"rules\":[{\"filters\":[{\"type\":\"RequestRedirect\",\"requestRedirect\":null}]}]}}",
-            "3 spec.rules[0].filters[0].requestRedirect",
-        ),
-        (
-            "{\"spec\":{\"rules\":[{\"filters\":[{\"type\":\"URLRewrite\"}]}]}}",
-            "3 spec.rules[0].filters[0].urlRewrite",
-        ),
-        (
-            "{\"spec\":{\"rules\":[{\"filters\":[{\"type\":\"URLRewrite\",\"urlRewrite\":{\"path\":{\"type\":\"Other\",\"replaceFullPath\":0}}}]}]}}",
-            "read",
-        ),
-        (
-            "{\"spec\":{\"rules\":[{\"filters\":[{\"type\":\"RequestMirror\",\"requestHeaderModifier\":0}]}]}}",
-            "read",
-        ),
-        (
-            "{\"spec\":{\"rules\":[{\"filters\":[{\"type\":\"ResponseHeaderModifier\",\"responseHeaderModifier\":{\"remove\":[\"a\",null]}}]}]}}",
-            "4 spec.rules[0].filters[0].responseHeaderModifier.remove[1]",
-        ),
-        (
-            "{\"spec\":{\"rules\":[{\"filters\":[{\"type\":\"ResponseHeaderModifier\",\"responseHeaderModifier\":{\"remove\":[\"\"]}}]}]}}",
-            "5 spec.rules[0].filters[0].responseHeaderModifier.remove[0]",
-        ),
-        (
-            "{\"spec\":{\"rules\":[{\"backendRefs\":[{\"name\":\"s\"}]}]}}",
-            "3 spec.rules[0].backendRefs[0].port",
-        ),
-        (
-            "{\"spec\":{\"rules\":[{\"backendRefs\":[{\"name\":\"s\",\"kind\":\"Pod\"},{\"name\":\"s\",\"group\":\"a\"}]}]}}",
-            "read",
-        ),
-        (
-            "{\"spec\":{\"rules\":[{\"backendRefs\":[{\"port\":0,\"weight\":-1,\"namespace\":\"\",\"name\":\"s\"}]}]}}",
-            "5 spec.rules[0].backendRefs[0].namespace",
-        ),
-        ("{\"spec\":{\"rules\":[{\"timeouts\":0}]}}", "read"),
-    ] {
-        assert_eq!(rt; told(alloc, line)?.as_str(), want, "{line}");
+    for (line, want) in OBJECTS.iter() {
+        let told = told(alloc, line)?;
+        assert_eq!(rt; told.as_str(), *want, "{line}");
     }
     Ok(())
 }
@@ -747,38 +734,41 @@ redirect https new.example.com full / 8443 301
 redirect - - other Strip 0 0
 ";
 
+const ROUTES: [(&str, &str); 7] = [
+    (WHOLE, WHOLE_SHOWN),
+    (
+        "{\"spec\":{}}",
+        "route own/r\nrule false\nmatch PathPrefix / -\n",
+    ),
+    (
+        "{\"spec\":{\"rules\":null}}",
+        "route own/r\nrule false\nmatch PathPrefix / -\n",
+    ),
+    (
+        "{\"spec\":{\"parentRefs\":[],\"hostnames\":[],\"rules\":[]}}",
+        "route own/r\n",
+    ),
+    (
+        "{\"spec\":{\"rules\":[{\"matches\":[],\"timeouts\":null},{\"matches\":[{},{\"path\":{\"value\":\"/a\"}},{\"path\":{\"type\":\"Exact\"}}],\"timeouts\":{}}]}}",
+        "route own/r\nrule false\nmatch PathPrefix / -\nrule true\nmatch PathPrefix / -\nmatch PathPrefix /a -\nmatch Exact / -\n",
+    ),
+    (
+        "{\"spec\":{\"rules\":[{\"backendRefs\":[{\"name\":\"s\",\"port\":1,\"filters\":[]},{\"name\":\"s\",\"port\":2,\"filters\":[null]},{\"name\":\"s\",\"kind\":\"Pod\"}]}]}}",
+        "route own/r\nrule false\nmatch PathPrefix / -\nbackend  Service own s 1 1 false\nbackend  Service own s 2 1 true\nbackend  Pod own s 0 1 false\n",
+    ),
+    (
+        "{\"apiVersion\":\"gateway.networking.k8s.io/v1\",\"kind\":\"HTTPRoute\",\"metadata\":{\"creationTimestamp\":\"2024-05-01T10:00:00Z\",\"generation\":2,\"managedFields\":[{\"manager\":\"kubectl\"}],\"name\":\"r\",\"namespace\":\"default\",\"resourceVersion\":\"912\",\"uid\":\"0b7e\"},\"spec\":{\"hostnames\":[\"shop.example.com\"],\"parentRefs\":[{\"group\":\"gateway.networking.k8s.io\",\"kind\":\"Gateway\",\"name\":\"g\"}],\"rules\":[{\"backendRefs\":[{\"group\":\"\",\"kind\":\"Service\",\"name\":\"s\",\"port\":80,\"weight\":1}],\"matches\":[{\"path\":{\"type\":\"PathPrefix\",\"value\":\"/\"}}]}]},\"status\":{\"parents\":[]}}",
+        "route own/r\nparent gateway.networking.k8s.io Gateway own g - 0\nhost false shop.example.com\nrule false\nmatch PathPrefix / -\nbackend  Service own s 80 1 false\n",
+    ),
+];
+
 #[test]
 fn routes(rt: HostRuntime) -> Result<(), Fail> {
     let alloc = rt.alloc();
-    for (line, want) in [
-        (WHOLE, WHOLE_SHOWN),
-        (
-            "{\"spec\":{}}",
-            "route own/r\nrule false\nmatch PathPrefix / -\n",
-        ),
-        (
-            "{\"spec\":{\"rules\":null}}",
-            "route own/r\nrule false\nmatch PathPrefix / -\n",
-        ),
-        (
-            "{\"spec\":{\"parentRefs\":[],\"hostnames\":[],\"rules\":[]}}",
-            "route own/r\n",
-        ),
-        (
-            "{\"spec\":{\"rules\":[{\"matches\":[],\"timeouts\":null},{\"matches\":[{},{\"path\":{\"value\":\"/a\"}},{\"path\":{\"type\":\"Exact\"}}],\"timeouts\":{}}]}}",
-            "route own/r\nrule false\nmatch PathPrefix / -\nrule true\nmatch PathPrefix / -\nmatch PathPrefix /a -\nmatch Exact / -\n",
-        ),
-        (
-            "{\"spec\":{\"rules\":[{\"backendRefs\":[{\"name\":\"s\",\"port\":1,\"filters\":[]},{\"name\":\"s\",\"port\":2,\"filters\":[null]},{\"name\":\"s\",\"kind\":\"Pod\"}]}]}}",
-            "route own/r\nrule false\nmatch PathPrefix / -\nbackend  Service own s 1 1 false\nbackend  Service own s 2 1 true\nbackend  Pod own s 0 1 false\n",
-        ),
-        (
-            "{\"apiVersion\":\"gateway.networking.k8s.io/v1\",\"kind\":\"HTTPRoute\",\"metadata\":{\"creationTimestamp\":\"2024-05-01T10:00:00Z\",\"generation\":2,\"managedFields\":[{\"manager\":\"kubectl\"}],\"name\":\"r\",\"namespace\":\"default\",\"resourceVersion\":\"912\",\"uid\":\"0b7e\"},\"spec\":{\"hostnames\":[\"shop.example.com\"],\"parentRefs\":[{\"group\":\"gateway.networking.k8s.io\",\"kind\":\"Gateway\",\"name\":\"g\"}],\"rules\":[{\"backendRefs\":[{\"group\":\"\",\"kind\":\"Service\",\"name\":\"s\",\"port\":80,\"weight\":1}],\"matches\":[{\"path\":{\"type\":\"PathPrefix\",\"value\":\"/\"}}]}]},\"status\":{\"parents\":[]}}",
-            "route own/r\nparent gateway.networking.k8s.io Gateway own g - 0\nhost false shop.example.com\nrule false\nmatch PathPrefix / -\nbackend  Service own s 80 1 false\n",
-        ),
-    ] {
-        let route = route_in(alloc, line).ok().ok_or(line)?;
-        assert_eq!(rt; show(alloc, &route)?.as_str(), want, "{line}");
+    for (line, want) in ROUTES.iter() {
+        let route = route_in(alloc, line).ok().ok_or(*line)?;
+        let shown = show(alloc, &route)?;
+        assert_eq!(rt; shown.as_str(), *want, "{line}");
     }
     Ok(())
 }
