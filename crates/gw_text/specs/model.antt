@@ -9,3 +9,8 @@ pub mod Objects
 pub mod Paths
 pub mod Picks
 pub mod World
+pub mod Fields
+pub mod Matches
+pub mod Filters
+pub mod Routes
+pub mod RouteForms

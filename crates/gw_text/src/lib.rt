@@ -2,6 +2,7 @@
 // lists that the contracts of every crate above speak of.
 #![tactic(auto)]
 
+mod field;
 mod host;
 mod key;
 mod meta;
@@ -11,6 +12,7 @@ mod second;
 mod tests;
 mod text;
 
+pub use field::Field;
 pub use host::Host;
 pub use key::Key;
 pub use meta::Meta;

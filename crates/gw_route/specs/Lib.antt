@@ -1,0 +1,9 @@
+pub mod Texts
+pub mod Words
+pub mod Parents
+pub mod Matches
+pub mod SeenModifier
+pub mod SeenFilter
+pub mod Filters
+pub mod Backends
+pub mod Routes

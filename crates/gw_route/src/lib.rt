@@ -1,0 +1,21 @@
+//! HTTPRoutes as they are read from JSON: the fields in the order of the Gateway API's reference, each
+//! with its default, and the first that is not as it must be gives the refusal.
+#![tactic(auto)]
+
+mod backend;
+mod filter;
+mod form;
+mod items;
+mod matching;
+mod parent;
+mod plain;
+mod route;
+#[cfg(test)]
+mod tests;
+mod words;
+
+pub use plain::{
+    BackendRef, Edits, Filter, HeaderMatch, HttpRoute, Match, ParentRef, PathMatch, PathModifier,
+    QueryParamMatch, Redirect, Rewrite, Rule,
+};
+pub use route::read_route;

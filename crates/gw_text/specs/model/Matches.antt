@@ -1,0 +1,26 @@
+-- What a rule of an HTTPRoute asks of a request.
+use Rattle.std.specs.Prelude.{ℕ, List, Option}
+
+-- A type, as Exact or PathPrefix, and the path that it is about. Source: HTTPPathMatch of the Gateway API reference.
+pub record PathMatch : Type 0 where
+  pub sort : List ℕ
+  pub value : List ℕ
+
+-- A type, as Exact, and the field that it is about. Source: HTTPHeaderMatch of the Gateway API reference.
+pub record HeaderMatch : Type 0 where
+  pub sort : List ℕ
+  pub name : List ℕ
+  pub value : List ℕ
+
+-- A type, as Exact, and the query parameter that it is about. Source: HTTPQueryParamMatch of the Gateway API reference.
+pub record QueryParamMatch : Type 0 where
+  pub sort : List ℕ
+  pub name : List ℕ
+  pub value : List ℕ
+
+-- All of these have to hold of a request. Source: HTTPRouteMatch of the Gateway API reference.
+pub record Match : Type 0 where
+  pub path : PathMatch
+  pub headers : List HeaderMatch
+  pub query_params : List QueryParamMatch
+  pub method : Option (List ℕ)
