@@ -7,3 +7,11 @@ pub mod Held
 pub mod Forms
 pub mod Moments
 pub mod World
+pub mod Selectors
+pub mod Addresses
+pub mod GatewayClasses
+pub mod Gateways
+pub mod Grants
+pub mod Namespaces
+pub mod Services
+pub mod Slices
