@@ -7,6 +7,7 @@ use Rattle.gw_text.specs.model.Meta.{Meta}
 use Rattle.gw_text.specs.model.Grants.{GrantFrom, GrantTo, ReferenceGrant}
 use Rattle.gw_objects.specs.Forms.{needed, given, spec_of, word_of, name_of, namespace_name_of}
 
+-- An item of spec.from: ReferenceGrantFrom.
 unfoldable pub grant_from_of : Place → Result GrantFrom Refusal
 grant_from_of at = do
   group ← needed word_of (codes "group") at
@@ -14,6 +15,7 @@ grant_from_of at = do
   namespace ← needed namespace_name_of (codes "namespace") at
   Ok (record { group = group; kind = kind; namespace = namespace })
 
+-- An item of spec.to: ReferenceGrantTo.
 unfoldable pub grant_to_of : Place → Result GrantTo Refusal
 grant_to_of at = do
   group ← needed word_of (codes "group") at
@@ -21,16 +23,19 @@ grant_to_of at = do
   name ← given name_of (codes "name") at
   Ok (record { group = group; kind = kind; name = name })
 
+-- spec.from must be there, with at most 16 items.
 unfoldable pub from_of : Place → Result (List GrantFrom) Refusal
 from_of spec = do
   places ← needed (items_of 16) (codes "from") spec
   each grant_from_of places
 
+-- spec.to must be there, with at most 16 items.
 unfoldable pub to_of : Place → Result (List GrantTo) Refusal
 to_of spec = do
   places ← needed (items_of 16) (codes "to") spec
   each grant_to_of places
 
+-- The fields of a ReferenceGrant, in the order in which they are read.
 unfoldable pub grant_of : Meta → Place → Result ReferenceGrant Refusal
 grant_of meta at = do
   spec ← spec_of at

@@ -17,6 +17,7 @@ label_of member = do
 abbrev pub mapped_on : List (List ℕ × List ℕ) → Result (List (List ℕ × List ℕ)) Refusal → Result (List (List ℕ × List ℕ)) Refusal
 mapped_on before read = read >>= λ entries. Ok (fold (λ map e. put e.0 e.1 map) before entries)
 
+-- The map that has the entries that were read.
 abbrev pub mapped : Result (List (List ℕ × List ℕ)) Refusal → Result (List (List ℕ × List ℕ)) Refusal
 mapped = mapped_on []
 

@@ -19,6 +19,7 @@ moment_of at = do
   text ← text_of any_length at
   or (BadValue at.path) (second_of text)
 
+-- The metadata must be there, an object.
 abbrev pub metadata_of : Place → Result Place Refusal
 metadata_of at = needed place_of_object (codes "metadata") at
 
@@ -27,12 +28,15 @@ unfoldable pub namespace_in : List ℕ → Place → Result (List ℕ) Refusal
 namespace_in kind metadata =
     if is_namespaced kind then defaulted (codes "default") namespace_name_of (codes "namespace") metadata else Ok []
 
+-- metadata.creationTimestamp, which may be absent.
 unfoldable pub created_of : Place → Result (Option ℤ) Refusal
 created_of metadata = given moment_of (codes "creationTimestamp") metadata
 
+-- metadata.generation is an int64 that is not negative; 1 where it is absent.
 unfoldable pub generation_of : Place → Result ℕ Refusal
 generation_of metadata = defaulted 1 (number_of 0 9223372036854775807) (codes "generation") metadata
 
+-- The fields of the metadata, in the order in which they are read.
 unfoldable pub meta_of : List ℕ → Place → Result Meta Refusal
 meta_of kind at = do
   metadata ← metadata_of at

@@ -14,6 +14,7 @@ use Rattle.gw_objects.specs.Labels.{labels_of}
 abbrev pub with_own_name : Meta → List (List ℕ × List ℕ) → List (List ℕ × List ℕ)
 with_own_name meta labels = put (codes "kubernetes.io/metadata.name") (printed meta.key.name) labels
 
+-- The fields of a Namespace.
 unfoldable pub namespace_of : Meta → Place → Result Namespace Refusal
 namespace_of meta at = do
   labels ← labels_of at

@@ -7,10 +7,12 @@ use Rattle.gw_objects.specs.declared.routes.FromNamespaces.{FromNamespaces}
 use Rattle.gw_objects.specs.declared.routes.FromNamespaces.TheVariants.{All, Same, Selector}
 use Rattle.gw_objects.specs.Seen.{seen_selector}
 
+-- The choice of namespaces.
 abbrev pub seen_from : FromNamespaces → Plain
 seen_from All = from_all
 seen_from Same = from_same
 seen_from Selector = from_selector
 
+-- The choice of namespaces, with the selector.
 abbrev pub seen_namespaces : FromNamespaces × Option (List Asked) → Plain × Option (List Requirement)
 seen_namespaces n = (seen_from n.0, option_map seen_selector n.1)

@@ -28,6 +28,7 @@ named_op t =
     else (if bytes_eq t (codes "DoesNotExist") then Some key_does_not_exist
     else None)))
 
+-- A text that is the name of an operator.
 unfoldable pub op_of : Place → Result Op Refusal
 op_of at = do
   text ← text_of any_length at
@@ -37,6 +38,7 @@ op_of at = do
 abbrev pub gathered_on : List (List ℕ × List ℕ) → Result (List (List ℕ)) Refusal → Result (List (List ℕ × List ℕ)) Refusal
 gathered_on before read = read >>= λ texts. Ok (fold (λ set text. put text [] set) before texts)
 
+-- The set of the texts that were read.
 abbrev pub gathered : Result (List (List ℕ)) Refusal → Result (List (List ℕ × List ℕ)) Refusal
 gathered = gathered_on []
 
@@ -47,6 +49,7 @@ values_of at = do
   set ← gathered (each word_of places)
   Ok (keys_of set)
 
+-- The fields of an item of matchExpressions, in the order in which they are read: LabelSelectorRequirement.
 unfoldable pub expression_of : Place → Result Requirement Refusal
 expression_of at = do
   key ← needed word_of (codes "key") at
@@ -54,17 +57,21 @@ expression_of at = do
   values ← values_of at
   Ok (record { key = key; op = op; values = values })
 
+-- matchLabels, an object of words.
 unfoldable pub label_members_of : Place → Result (List (List ℕ × Place)) Refusal
 label_members_of at = defaulted [] members_of (codes "matchLabels") at
 
+-- What matchLabels asks, in the byte order of its keys.
 unfoldable pub match_labels_of : Place → Result (List Requirement) Refusal
 match_labels_of at = do
   members ← label_members_of at
   each asked_of members
 
+-- matchExpressions, at most 64 items.
 unfoldable pub expression_places_of : Place → Result (List Place) Refusal
 expression_places_of at = listed 64 (codes "matchExpressions") at
 
+-- What matchExpressions asks, in list order.
 unfoldable pub match_expressions_of : Place → Result (List Requirement) Refusal
 match_expressions_of at = do
   places ← expression_places_of at

@@ -14,9 +14,11 @@ external_name_of spec = do
   sort ← given word_of (codes "type") spec
   Ok (option_map_or (λ t. bytes_eq t (codes "ExternalName")) sort false)
 
+-- appProtocol, which may be absent.
 unfoldable pub app_protocol_of : Place → Result (Option (List ℕ)) Refusal
 app_protocol_of at = given word_of (codes "appProtocol") at
 
+-- The fields of an item of spec.ports, in the order in which they are read: ServicePort.
 unfoldable pub service_port_of : Place → Result ServicePort Refusal
 service_port_of at = do
   name ← defaulted (codes "") word_of (codes "name") at
@@ -25,11 +27,13 @@ service_port_of at = do
   app_protocol ← app_protocol_of at
   Ok (record { name = name; port = port; protocol = protocol; app_protocol = app_protocol })
 
+-- spec.ports, at most 1,024 items.
 unfoldable pub service_ports_of : Place → Result (List ServicePort) Refusal
 service_ports_of spec = do
   places ← listed 1024 (codes "ports") spec
   each service_port_of places
 
+-- The fields of a Service, in the order in which they are read.
 unfoldable pub service_of : Meta → Place → Result Service Refusal
 service_of meta at = do
   spec ← spec_of at

@@ -1,6 +1,6 @@
 use crate::{
-    FromNamespaces, Ipv4, parse_ipv4, read_class, read_gateway, read_grant, read_meta,
-    read_namespace, read_service, read_slice,
+    FromNamespaces, parse_ipv4, read_class, read_gateway, read_grant, read_meta, read_namespace,
+    read_service, read_slice,
 };
 use gw_json::{Cursor, read_value};
 use gw_labels::{Labels, accepts};
@@ -49,7 +49,8 @@ fn classes_and_gateways(rt: HostRuntime) -> Result<(), Fail> {
     assert_eq!(rt; gateway.meta.generation, 1);
     assert_eq!(rt; gateway.gateway_class_name.as_str(), Some("c"));
     let [http, other] = gateway.listeners.as_slice() else {
-        return rt.fail("two listeners");
+        assert!(rt; false, "two listeners");
+        return Ok(());
     };
     assert_eq!(rt; http.name.as_str(), Some("http"));
     assert_eq!(rt; (http.port, other.port), (80, 8080));
@@ -61,7 +62,8 @@ fn classes_and_gateways(rt: HostRuntime) -> Result<(), Fail> {
     assert_eq!(rt; other.allowed_routes.from, FromNamespaces::Same);
     assert!(rt; other.allowed_routes.selector.is_none());
     let [first, second] = gateway.addresses.as_slice() else {
-        return rt.fail("two addresses");
+        assert!(rt; false, "two addresses");
+        return Ok(());
     };
     assert_eq!(rt; first.sort.as_str(), Some("IPAddress"));
     assert_eq!(rt; second.sort.as_str(), Some("Hostname"));
@@ -92,9 +94,13 @@ fn the_other_kinds(rt: HostRuntime) -> Result<(), Fail> {
     let value = read_value(alloc, GRANT.as_bytes())?;
     let at = Cursor::root(alloc, &value)?;
     let grant = read_grant(alloc, read_meta(alloc, "ReferenceGrant", &at)?, &at)?;
-    assert_eq!(rt; grant.from[0].namespace.as_str(), Some("a"));
-    assert!(rt; grant.to[0].name.is_none());
-    assert_eq!(rt; grant.to[1].kind.as_str(), Some("Service"));
+    let ([from], [all, one]) = (grant.from.as_slice(), grant.to.as_slice()) else {
+        assert!(rt; false, "one from, two to");
+        return Ok(());
+    };
+    assert_eq!(rt; from.namespace.as_str(), Some("a"));
+    assert!(rt; all.name.is_none());
+    assert_eq!(rt; one.kind.as_str(), Some("Service"));
 
     let value = read_value(alloc, NAMESPACE.as_bytes())?;
     let at = Cursor::root(alloc, &value)?;
@@ -110,32 +116,29 @@ fn the_other_kinds(rt: HostRuntime) -> Result<(), Fail> {
     let service = read_service(alloc, read_meta(alloc, "Service", &at)?, &at)?;
     assert_eq!(rt; service.meta.key.namespace.as_str(), Some("default"));
     assert!(rt; service.external_name);
-    assert_eq!(rt; service.ports[0].name.as_str(), Some("web"));
-    assert_eq!(rt; service.ports[0].port, 80);
-    assert_eq!(rt; service.ports[1].name.as_str(), Some(""));
-    assert_eq!(rt; service.ports[1].protocol.as_str(), Some("UDP"));
-    assert!(rt; service.ports[1].app_protocol.is_none());
+    let [web, dns] = service.ports.as_slice() else {
+        assert!(rt; false, "two ports");
+        return Ok(());
+    };
+    assert_eq!(rt; web.name.as_str(), Some("web"));
+    assert_eq!(rt; web.port, 80);
+    assert_eq!(rt; dns.name.as_str(), Some(""));
+    assert_eq!(rt; dns.protocol.as_str(), Some("UDP"));
+    assert!(rt; dns.app_protocol.is_none());
 
     let value = read_value(alloc, SLICE.as_bytes())?;
     let at = Cursor::root(alloc, &value)?;
     let slice = read_slice(alloc, read_meta(alloc, "EndpointSlice", &at)?, &at)?;
     assert_eq!(rt; slice.labels.get("kubernetes.io/service-name"), Some("s"));
     assert_eq!(rt; slice.address_type.as_str(), Some("IPv4"));
-    assert_eq!(rt; slice.ports[0].port, Some(8080));
-    assert_eq!(rt; slice.ports[1].port, None);
-    assert_eq!(rt; slice.ports[1].protocol.as_str(), Some("TCP"));
-    for (i, ready) in [false, true, true].iter().enumerate() {
-        assert_eq!(rt; slice.endpoints[i].ready, *ready, "endpoint {i}");
-    }
-    assert_eq!(rt;
-        slice.endpoints[0].address,
-        Some(Ipv4 {
-            a: 10,
-            b: 0,
-            c: 0,
-            d: 1
-        })
-    );
+    let ([port, metrics], [a, b, c]) = (slice.ports.as_slice(), slice.endpoints.as_slice()) else {
+        assert!(rt; false, "two ports, three endpoints");
+        return Ok(());
+    };
+    assert_eq!(rt; (port.port, metrics.port), (Some(8080), None));
+    assert_eq!(rt; metrics.protocol.as_str(), Some("TCP"));
+    assert_eq!(rt; (a.ready, b.ready, c.ready), (false, true, true));
+    assert_eq!(rt; a.address, parse_ipv4(b"10.0.0.1"));
     Ok(())
 }
 
