@@ -1,11 +1,11 @@
 -- Where a dotted text is cut, and that it has no more than four parts where it is an address.
-use Rattle.std.proofs.Common.{◌≡◌, ℕ, ◌+◌, ◌<◌, ◌≤◌, Bool, true, false, cond, List, [], ◌∷◌, length, take, drop, Option, None, Some, refl, sym, nat_lt, position, arith, ap, ◌∙◌}
-use Rattle.std.specs.List.{slice_split, position_or_len, All}
+use Rattle.std.proofs.Common.{◌≡◌, ℕ, ◌+◌, ◌<◌, ◌≤◌, Bool, true, false, cond, List, [], ◌∷◌, length, take, drop, None, Some, refl, nat_lt, position, arith}
+use Rattle.std.specs.List.{slice_split, position_or_len}
 use Rattle.std.proofs.lemmas.List.Splits.{slice_split_first, slice_split_none, length-slice_split}
 use Rattle.std.proofs.lemmas.List.Sums.{fails_before_first}
 use borrow.Author.Tests.{ltb-true, ltb-false}
 use Rattle.gw_text.specs.model.Forms.{is_dot}
-use Rattle.gw_text.specs.model.Addresses.{Ipv4, written_in}
+use Rattle.gw_text.specs.model.Addresses.{written_in}
 
 some_parts : (b : Bool) (n at : ℕ) → cond b (Some n) None ≡ Some at → (b ≡ true) × (n ≡ at)
 some_parts true n at e = (refl, cc)

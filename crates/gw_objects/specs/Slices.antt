@@ -3,7 +3,7 @@ use Rattle.std.specs.Prelude.{ℕ, List, [], ◌∷◌, codes, bytes_eq, Bool, t
 use Rattle.gw_json.specs.declared.refusal.Refusal.{Refusal}
 use Rattle.gw_json.specs.declared.refusal.Refusal.TheVariants.{BadValue}
 use Rattle.gw_json.specs.Words.{◌>>=◌, or, each}
-use Rattle.gw_json.specs.Fields.{Place, need_of, items_of, text_of, truth_of}
+use Rattle.gw_json.specs.Fields.{Place, items_of, text_of, truth_of}
 use Rattle.gw_text.specs.model.Addresses.{Ipv4, ipv4_of}
 use Rattle.gw_text.specs.model.Meta.{Meta}
 use Rattle.gw_text.specs.model.Slices.{EndpointPort, Endpoint, EndpointSlice}

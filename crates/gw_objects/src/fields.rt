@@ -1,5 +1,5 @@
 //! The words in which the fields of objects are read: how a field may be absent, and the form of its value.
-ghost use Rattle.std.specs.Prelude.{◌≡◌, [], map, codes, option_copied};
+ghost use Rattle.std.specs.Prelude.{[], map, codes, option_copied};
 ghost use Rattle.gw_json.specs.Words.{Gives};
 ghost use Rattle.gw_json.specs.Fields.{place_of, named_place, text_of, items_of, members_of};
 ghost use Rattle.gw_objects.specs.Forms.{needed, given, defaulted, is_given, listed, place_of_object, spec_of, word_of, name_of, namespace_name_of, hostname_of, port_of};

@@ -1,4 +1,4 @@
-ghost use Rattle.std.specs.Prelude.{◌≡◌, option_map};
+ghost use Rattle.std.specs.Prelude.{option_map};
 ghost use Rattle.gw_json.specs.Words.{Gives};
 ghost use Rattle.gw_json.specs.Fields.{place_of};
 ghost use Rattle.gw_objects.specs.Forms.{defaulted};

@@ -1,4 +1,3 @@
-ghost use Rattle.std.specs.Prelude.{◌≡◌};
 ghost use Rattle.gw_json.specs.Words.{Gives};
 ghost use Rattle.gw_json.specs.Fields.{place_of};
 ghost use Rattle.gw_objects.specs.Services as services;

@@ -1,4 +1,4 @@
-ghost use Rattle.std.specs.Prelude.{◌≡◌, map};
+ghost use Rattle.std.specs.Prelude.{map};
 ghost use Rattle.gw_json.specs.Words.{Gives, each};
 ghost use Rattle.gw_json.specs.Fields.{place_of};
 ghost use Rattle.gw_objects.specs.Slices as slices;
