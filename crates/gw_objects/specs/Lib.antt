@@ -1,0 +1,13 @@
+pub mod Classes
+pub mod Forms
+pub mod Gateways
+pub mod Grants
+pub mod Labels
+pub mod Metadata
+pub mod Namespaces
+pub mod Parts
+pub mod Seen
+pub mod SeenFrom
+pub mod Selectors
+pub mod Services
+pub mod Slices

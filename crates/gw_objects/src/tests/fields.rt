@@ -1,0 +1,601 @@
+use super::answer;
+use std::test::Fail;
+
+// The JSON types, and those of no field: null, and numbers that aren't whole.
+#[derive(Clone, Copy, PartialEq, Eq)]
+enum Sort {
+    Null,
+    Fraction,
+    Truth,
+    Number,
+    Text,
+    List,
+    Object,
+    Any,
+}
+
+// A field must be there, may be absent, or is an item, for which null is another type.
+#[derive(Clone, Copy, PartialEq, Eq)]
+enum Presence {
+    Need,
+    May,
+    Item,
+}
+
+const SAMPLES: [(&[u8], Sort); 8] = [
+    (b"null", Sort::Null),
+    (b"7.0", Sort::Fraction),
+    (b"7e0", Sort::Fraction),
+    (b"true", Sort::Truth),
+    (b"7", Sort::Number),
+    (b"\"s\"", Sort::Text),
+    (b"[]", Sort::List),
+    (b"{}", Sort::Object),
+];
+
+// A kind, an object with `$` for a field's value, the field's path, its type, and whether it must be there.
+const FIELDS: [(u8, &[u8], &[u8], Sort, Presence); 73] = [
+    (
+        b'C',
+        br#"{"metadata":$,"spec":{"controllerName":"c"}}"#,
+        b"metadata",
+        Sort::Object,
+        Presence::Need,
+    ),
+    (
+        b'C',
+        br#"{"metadata":{"name":$,"uid":"u"},"spec":{"controllerName":"c"}}"#,
+        b"metadata.name",
+        Sort::Text,
+        Presence::Need,
+    ),
+    (
+        b'C',
+        br#"{"metadata":{"name":"c","namespace":$},"spec":{"controllerName":"c"}}"#,
+        b"",
+        Sort::Any,
+        Presence::May,
+    ),
+    (
+        b'C',
+        br#"{"metadata":{"name":"c","creationTimestamp":$},"spec":{"controllerName":"c"}}"#,
+        b"metadata.creationTimestamp",
+        Sort::Text,
+        Presence::May,
+    ),
+    (
+        b'C',
+        br#"{"metadata":{"name":"c","generation":$},"spec":{"controllerName":"c"}}"#,
+        b"metadata.generation",
+        Sort::Number,
+        Presence::May,
+    ),
+    (
+        b'C',
+        br#"{"metadata":{"name":"c"},"spec":$,"status":7}"#,
+        b"spec",
+        Sort::Object,
+        Presence::Need,
+    ),
+    (
+        b'C',
+        br#"{"metadata":{"name":"c"},"spec":{"controllerName":$,"x":7}}"#,
+        b"spec.controllerName",
+        Sort::Text,
+        Presence::Need,
+    ),
+    (
+        b'C',
+        br#"{"metadata":{"name":"c","labels":7},"spec":{"controllerName":"c","parametersRef":$}}"#,
+        b"",
+        Sort::Any,
+        Presence::May,
+    ),
+    (
+        b'G',
+        br#"{"metadata":{"name":"g","namespace":$},"spec":{"gatewayClassName":"c","listeners":[{"name":"l","port":80,"protocol":"HTTP"}]}}"#,
+        b"metadata.namespace",
+        Sort::Text,
+        Presence::May,
+    ),
+    (
+        b'G',
+        br#"{"metadata":{"name":"g"},"spec":$}"#,
+        b"spec",
+        Sort::Object,
+        Presence::Need,
+    ),
+    (
+        b'G',
+        br#"{"metadata":{"name":"g"},"spec":{"gatewayClassName":$,"listeners":[{"name":"l","port":80,"protocol":"HTTP"}]}}"#,
+        b"spec.gatewayClassName",
+        Sort::Text,
+        Presence::Need,
+    ),
+    (
+        b'G',
+        br#"{"metadata":{"name":"g"},"spec":{"gatewayClassName":"c","listeners":$,"x":7}}"#,
+        b"spec.listeners",
+        Sort::List,
+        Presence::Need,
+    ),
+    (
+        b'G',
+        br#"{"metadata":{"name":"g"},"spec":{"gatewayClassName":"c","listeners":[$]}}"#,
+        b"spec.listeners[0]",
+        Sort::Object,
+        Presence::Item,
+    ),
+    (
+        b'G',
+        br#"{"metadata":{"name":"g"},"spec":{"gatewayClassName":"c","listeners":[{"name":$,"port":80,"protocol":"HTTP","x":7}]}}"#,
+        b"spec.listeners[0].name",
+        Sort::Text,
+        Presence::Need,
+    ),
+    (
+        b'G',
+        br#"{"metadata":{"name":"g"},"spec":{"gatewayClassName":"c","listeners":[{"name":"l","hostname":$,"port":80,"protocol":"HTTP"}]}}"#,
+        b"spec.listeners[0].hostname",
+        Sort::Text,
+        Presence::May,
+    ),
+    (
+        b'G',
+        br#"{"metadata":{"name":"g"},"spec":{"gatewayClassName":"c","listeners":[{"name":"l","port":$,"protocol":"HTTP"}]}}"#,
+        b"spec.listeners[0].port",
+        Sort::Number,
+        Presence::Need,
+    ),
+    (
+        b'G',
+        br#"{"metadata":{"name":"g"},"spec":{"gatewayClassName":"c","listeners":[{"name":"l","port":80,"protocol":$}]}}"#,
+        b"spec.listeners[0].protocol",
+        Sort::Text,
+        Presence::Need,
+    ),
+    (
+        b'G',
+        br#"{"metadata":{"name":"g"},"spec":{"gatewayClassName":"c","listeners":[{"name":"l","port":80,"protocol":"HTTP","allowedRoutes":$}]}}"#,
+        b"spec.listeners[0].allowedRoutes",
+        Sort::Object,
+        Presence::May,
+    ),
+    (
+        b'G',
+        br#"{"metadata":{"name":"g"},"spec":{"gatewayClassName":"c","listeners":[{"name":"l","port":80,"protocol":"HTTP","allowedRoutes":{"namespaces":$}}]}}"#,
+        b"spec.listeners[0].allowedRoutes.namespaces",
+        Sort::Object,
+        Presence::May,
+    ),
+    (
+        b'G',
+        br#"{"metadata":{"name":"g"},"spec":{"gatewayClassName":"c","listeners":[{"name":"l","port":80,"protocol":"HTTP","allowedRoutes":{"namespaces":{"from":$}}}]}}"#,
+        b"spec.listeners[0].allowedRoutes.namespaces.from",
+        Sort::Text,
+        Presence::May,
+    ),
+    (
+        b'G',
+        br#"{"metadata":{"name":"g"},"spec":{"gatewayClassName":"c","listeners":[{"name":"l","port":80,"protocol":"HTTP","allowedRoutes":{"namespaces":{"from":"Same","selector":$}}}]}}"#,
+        b"",
+        Sort::Any,
+        Presence::May,
+    ),
+    (
+        b'G',
+        br#"{"metadata":{"name":"g"},"spec":{"gatewayClassName":"c","listeners":[{"name":"l","port":80,"protocol":"HTTP","allowedRoutes":{"namespaces":{"from":"Selector","selector":$}}}]}}"#,
+        b"spec.listeners[0].allowedRoutes.namespaces.selector",
+        Sort::Object,
+        Presence::May,
+    ),
+    (
+        b'G',
+        br#"{"metadata":{"name":"g"},"spec":{"gatewayClassName":"c","listeners":[{"name":"l","port":80,"protocol":"HTTP","allowedRoutes":{"namespaces":{"from":"Selector","selector":{"matchLabels":$}}}}]}}"#,
+        b"spec.listeners[0].allowedRoutes.namespaces.selector.matchLabels",
+        Sort::Object,
+        Presence::May,
+    ),
+    (
+        b'G',
+        br#"{"metadata":{"name":"g"},"spec":{"gatewayClassName":"c","listeners":[{"name":"l","port":80,"protocol":"HTTP","allowedRoutes":{"namespaces":{"from":"Selector","selector":{"matchLabels":{"k":$}}}}}]}}"#,
+        b"spec.listeners[0].allowedRoutes.namespaces.selector.matchLabels.k",
+        Sort::Text,
+        Presence::Item,
+    ),
+    (
+        b'G',
+        br#"{"metadata":{"name":"g"},"spec":{"gatewayClassName":"c","listeners":[{"name":"l","port":80,"protocol":"HTTP","allowedRoutes":{"namespaces":{"from":"Selector","selector":{"matchExpressions":$}}}}]}}"#,
+        b"spec.listeners[0].allowedRoutes.namespaces.selector.matchExpressions",
+        Sort::List,
+        Presence::May,
+    ),
+    (
+        b'G',
+        br#"{"metadata":{"name":"g"},"spec":{"gatewayClassName":"c","listeners":[{"name":"l","port":80,"protocol":"HTTP","allowedRoutes":{"namespaces":{"from":"Selector","selector":{"matchExpressions":[$]}}}}]}}"#,
+        b"spec.listeners[0].allowedRoutes.namespaces.selector.matchExpressions[0]",
+        Sort::Object,
+        Presence::Item,
+    ),
+    (
+        b'G',
+        br#"{"metadata":{"name":"g"},"spec":{"gatewayClassName":"c","listeners":[{"name":"l","port":80,"protocol":"HTTP","allowedRoutes":{"namespaces":{"from":"Selector","selector":{"matchExpressions":[{"key":$,"operator":"Exists"}]}}}}]}}"#,
+        b"spec.listeners[0].allowedRoutes.namespaces.selector.matchExpressions[0].key",
+        Sort::Text,
+        Presence::Need,
+    ),
+    (
+        b'G',
+        br#"{"metadata":{"name":"g"},"spec":{"gatewayClassName":"c","listeners":[{"name":"l","port":80,"protocol":"HTTP","allowedRoutes":{"namespaces":{"from":"Selector","selector":{"matchExpressions":[{"key":"k","operator":$}]}}}}]}}"#,
+        b"spec.listeners[0].allowedRoutes.namespaces.selector.matchExpressions[0].operator",
+        Sort::Text,
+        Presence::Need,
+    ),
+    (
+        b'G',
+        br#"{"metadata":{"name":"g"},"spec":{"gatewayClassName":"c","listeners":[{"name":"l","port":80,"protocol":"HTTP","allowedRoutes":{"namespaces":{"from":"Selector","selector":{"matchExpressions":[{"key":"k","operator":"In","values":$}]}}}}]}}"#,
+        b"spec.listeners[0].allowedRoutes.namespaces.selector.matchExpressions[0].values",
+        Sort::List,
+        Presence::May,
+    ),
+    (
+        b'G',
+        br#"{"metadata":{"name":"g"},"spec":{"gatewayClassName":"c","listeners":[{"name":"l","port":80,"protocol":"HTTP","allowedRoutes":{"namespaces":{"from":"Selector","selector":{"matchExpressions":[{"key":"k","operator":"In","values":["v",$]}]}}}}]}}"#,
+        b"spec.listeners[0].allowedRoutes.namespaces.selector.matchExpressions[0].values[1]",
+        Sort::Text,
+        Presence::Item,
+    ),
+    (
+        b'G',
+        br#"{"metadata":{"name":"g"},"spec":{"gatewayClassName":"c","listeners":[{"name":"l","port":80,"protocol":"HTTP","allowedRoutes":{"kinds":$}}]}}"#,
+        b"spec.listeners[0].allowedRoutes.kinds",
+        Sort::List,
+        Presence::May,
+    ),
+    (
+        b'G',
+        br#"{"metadata":{"name":"g"},"spec":{"gatewayClassName":"c","listeners":[{"name":"l","port":80,"protocol":"HTTP","allowedRoutes":{"kinds":[{"group":$,"kind":"k"}]}}]}}"#,
+        b"spec.listeners[0].allowedRoutes.kinds[0].group",
+        Sort::Text,
+        Presence::May,
+    ),
+    (
+        b'G',
+        br#"{"metadata":{"name":"g"},"spec":{"gatewayClassName":"c","listeners":[{"name":"l","port":80,"protocol":"HTTP","allowedRoutes":{"kinds":[{"kind":$,"x":7}]}}]}}"#,
+        b"spec.listeners[0].allowedRoutes.kinds[0].kind",
+        Sort::Text,
+        Presence::Need,
+    ),
+    (
+        b'G',
+        br#"{"metadata":{"name":"g"},"spec":{"gatewayClassName":"c","listeners":[{"name":"l","port":80,"protocol":"HTTP"}],"addresses":$}}"#,
+        b"spec.addresses",
+        Sort::List,
+        Presence::May,
+    ),
+    (
+        b'G',
+        br#"{"metadata":{"name":"g"},"spec":{"gatewayClassName":"c","listeners":[{"name":"l","port":80,"protocol":"HTTP"}],"addresses":[{"type":$,"x":7}]}}"#,
+        b"spec.addresses[0].type",
+        Sort::Text,
+        Presence::May,
+    ),
+    (
+        b'G',
+        br#"{"metadata":{"name":"g"},"spec":{"gatewayClassName":"c","listeners":[{"name":"l","port":80,"protocol":"HTTP"}],"addresses":[{"value":$}]}}"#,
+        b"spec.addresses[0].value",
+        Sort::Text,
+        Presence::May,
+    ),
+    (
+        b'R',
+        br#"{"metadata":{"name":"r"},"spec":$}"#,
+        b"spec",
+        Sort::Object,
+        Presence::Need,
+    ),
+    (
+        b'R',
+        br#"{"metadata":{"name":"r"},"spec":{"from":$,"to":[],"x":7}}"#,
+        b"spec.from",
+        Sort::List,
+        Presence::Need,
+    ),
+    (
+        b'R',
+        br#"{"metadata":{"name":"r"},"spec":{"from":[{"group":$,"kind":"k","namespace":"n","x":7}],"to":[]}}"#,
+        b"spec.from[0].group",
+        Sort::Text,
+        Presence::Need,
+    ),
+    (
+        b'R',
+        br#"{"metadata":{"name":"r"},"spec":{"from":[{"group":"g","kind":$,"namespace":"n"}],"to":[]}}"#,
+        b"spec.from[0].kind",
+        Sort::Text,
+        Presence::Need,
+    ),
+    (
+        b'R',
+        br#"{"metadata":{"name":"r"},"spec":{"from":[{"group":"g","kind":"k","namespace":$}],"to":[]}}"#,
+        b"spec.from[0].namespace",
+        Sort::Text,
+        Presence::Need,
+    ),
+    (
+        b'R',
+        br#"{"metadata":{"name":"r"},"spec":{"from":[],"to":$}}"#,
+        b"spec.to",
+        Sort::List,
+        Presence::Need,
+    ),
+    (
+        b'R',
+        br#"{"metadata":{"name":"r"},"spec":{"from":[],"to":[{"group":"","kind":$}]}}"#,
+        b"spec.to[0].kind",
+        Sort::Text,
+        Presence::Need,
+    ),
+    (
+        b'R',
+        br#"{"metadata":{"name":"r"},"spec":{"from":[],"to":[{"group":"","kind":"k","name":$}]}}"#,
+        b"spec.to[0].name",
+        Sort::Text,
+        Presence::May,
+    ),
+    (
+        b'N',
+        br#"{"metadata":{"name":"n","labels":$},"spec":7}"#,
+        b"metadata.labels",
+        Sort::Object,
+        Presence::May,
+    ),
+    (
+        b'N',
+        br#"{"metadata":{"name":"n","labels":{"a":"b","k":$}}}"#,
+        b"metadata.labels.k",
+        Sort::Text,
+        Presence::Item,
+    ),
+    (
+        b'S',
+        br#"{"metadata":{"name":"s"},"spec":$}"#,
+        b"spec",
+        Sort::Object,
+        Presence::Need,
+    ),
+    (
+        b'S',
+        br#"{"metadata":{"name":"s"},"spec":{"type":$,"x":7}}"#,
+        b"spec.type",
+        Sort::Text,
+        Presence::May,
+    ),
+    (
+        b'S',
+        br#"{"metadata":{"name":"s"},"spec":{"ports":$}}"#,
+        b"spec.ports",
+        Sort::List,
+        Presence::May,
+    ),
+    (
+        b'S',
+        br#"{"metadata":{"name":"s"},"spec":{"ports":[{"name":$,"port":80,"x":7}]}}"#,
+        b"spec.ports[0].name",
+        Sort::Text,
+        Presence::May,
+    ),
+    (
+        b'S',
+        br#"{"metadata":{"name":"s"},"spec":{"ports":[{"port":80},{"port":$}]}}"#,
+        b"spec.ports[1].port",
+        Sort::Number,
+        Presence::Need,
+    ),
+    (
+        b'S',
+        br#"{"metadata":{"name":"s"},"spec":{"ports":[{"port":80,"protocol":"UDP","appProtocol":$}]}}"#,
+        b"spec.ports[0].appProtocol",
+        Sort::Text,
+        Presence::May,
+    ),
+    (
+        b'E',
+        br#"{"metadata":{"name":"s"},"addressType":$,"spec":7}"#,
+        b"addressType",
+        Sort::Text,
+        Presence::Need,
+    ),
+    (
+        b'E',
+        br#"{"metadata":{"name":"s"},"addressType":"IPv4","ports":[{"port":$}]}"#,
+        b"ports[0].port",
+        Sort::Number,
+        Presence::May,
+    ),
+    (
+        b'E',
+        br#"{"metadata":{"name":"s"},"addressType":"IPv4","endpoints":[{"addresses":$}]}"#,
+        b"endpoints[0].addresses",
+        Sort::List,
+        Presence::Need,
+    ),
+    (
+        b'E',
+        br#"{"metadata":{"name":"s"},"addressType":"IPv6","endpoints":[{"addresses":[$]}]}"#,
+        b"",
+        Sort::Any,
+        Presence::May,
+    ),
+    (
+        b'E',
+        br#"{"metadata":{"name":"s"},"addressType":"IPv6","endpoints":[{"addresses":[],"conditions":{"ready":$}}]}"#,
+        b"endpoints[0].conditions.ready",
+        Sort::Truth,
+        Presence::May,
+    ),
+    (
+        b'G',
+        br#"{"metadata":{"name":"g"},"spec":{"gatewayClassName":"c","listeners":[{"name":"l","port":80,"protocol":"HTTP","allowedRoutes":{"kinds":[$]}}]}}"#,
+        b"spec.listeners[0].allowedRoutes.kinds[0]",
+        Sort::Object,
+        Presence::Item,
+    ),
+    (
+        b'G',
+        br#"{"metadata":{"name":"g"},"spec":{"gatewayClassName":"c","listeners":[{"name":"l","port":80,"protocol":"HTTP"}],"addresses":[$]}}"#,
+        b"spec.addresses[0]",
+        Sort::Object,
+        Presence::Item,
+    ),
+    (
+        b'R',
+        br#"{"metadata":{"name":"r"},"spec":{"from":[$],"to":[]}}"#,
+        b"spec.from[0]",
+        Sort::Object,
+        Presence::Item,
+    ),
+    (
+        b'R',
+        br#"{"metadata":{"name":"r"},"spec":{"from":[],"to":[$]}}"#,
+        b"spec.to[0]",
+        Sort::Object,
+        Presence::Item,
+    ),
+    (
+        b'R',
+        br#"{"metadata":{"name":"r"},"spec":{"from":[],"to":[{"group":$,"kind":"k","x":7}]}}"#,
+        b"spec.to[0].group",
+        Sort::Text,
+        Presence::Need,
+    ),
+    (
+        b'S',
+        br#"{"metadata":{"name":"s"},"spec":{"ports":[$]}}"#,
+        b"spec.ports[0]",
+        Sort::Object,
+        Presence::Item,
+    ),
+    (
+        b'S',
+        br#"{"metadata":{"name":"s"},"spec":{"ports":[{"port":80,"protocol":$}]}}"#,
+        b"spec.ports[0].protocol",
+        Sort::Text,
+        Presence::May,
+    ),
+    (
+        b'E',
+        br#"{"metadata":{"name":"s","labels":$},"addressType":"IPv4"}"#,
+        b"metadata.labels",
+        Sort::Object,
+        Presence::May,
+    ),
+    (
+        b'E',
+        br#"{"metadata":{"name":"s"},"addressType":"IPv4","ports":$}"#,
+        b"ports",
+        Sort::List,
+        Presence::May,
+    ),
+    (
+        b'E',
+        br#"{"metadata":{"name":"s"},"addressType":"IPv4","ports":[$]}"#,
+        b"ports[0]",
+        Sort::Object,
+        Presence::Item,
+    ),
+    (
+        b'E',
+        br#"{"metadata":{"name":"s"},"addressType":"IPv4","ports":[{"name":$,"x":7}]}"#,
+        b"ports[0].name",
+        Sort::Text,
+        Presence::May,
+    ),
+    (
+        b'E',
+        br#"{"metadata":{"name":"s"},"addressType":"IPv4","ports":[{"protocol":$}]}"#,
+        b"ports[0].protocol",
+        Sort::Text,
+        Presence::May,
+    ),
+    (
+        b'E',
+        br#"{"metadata":{"name":"s"},"addressType":"IPv4","endpoints":$}"#,
+        b"endpoints",
+        Sort::List,
+        Presence::May,
+    ),
+    (
+        b'E',
+        br#"{"metadata":{"name":"s"},"addressType":"IPv4","endpoints":[$]}"#,
+        b"endpoints[0]",
+        Sort::Object,
+        Presence::Item,
+    ),
+    (
+        b'E',
+        br#"{"metadata":{"name":"s"},"addressType":"IPv4","endpoints":[{"addresses":[$,7]}]}"#,
+        b"endpoints[0].addresses[0]",
+        Sort::Text,
+        Presence::Item,
+    ),
+    (
+        b'E',
+        br#"{"metadata":{"name":"s"},"addressType":"IPv6","endpoints":[{"addresses":[],"conditions":$,"x":7}]}"#,
+        b"endpoints[0].conditions",
+        Sort::Object,
+        Presence::May,
+    ),
+];
+
+// The number of the refusal, from the rules alone; 0 where the value is taken, or its form decides.
+fn expected(found: Sort, wanted: Sort, presence: Presence) -> u8 {
+    if wanted == Sort::Any || found == wanted {
+        return 0;
+    }
+    match (found, presence) {
+        (Sort::Null, Presence::Need) => 3,
+        (Sort::Null, Presence::May) => 0,
+        _ => 4,
+    }
+}
+
+fn filled(rt: &HostRuntime, frame: &[u8], sample: &[u8]) -> Result<Vec<u8>, Fail> {
+    let mut text = Vec::new(rt.alloc());
+    for byte in frame {
+        if *byte == b'$' {
+            text.extend_from_slice(sample)?;
+        } else {
+            text.push(*byte)?;
+        }
+    }
+    Ok(text)
+}
+
+fn refusal(rt: &HostRuntime, number: u8, path: &[u8]) -> Result<Vec<u8>, Fail> {
+    let mut text = Vec::new(rt.alloc());
+    text.push(if number == 3 { b'3' } else { b'4' })?;
+    text.push(b' ')?;
+    text.extend_from_slice(path)?;
+    Ok(text)
+}
+
+#[test]
+fn values_of_each_type(rt: HostRuntime) -> Result<(), Fail> {
+    for (row, (kind, frame, path, wanted, presence)) in FIELDS.iter().enumerate() {
+        for (sample, found) in SAMPLES {
+            let answer = answer(&rt, *kind, filled(&rt, frame, sample)?.as_slice())?;
+            match expected(found, *wanted, *presence) {
+                0 => assert!(rt;
+                    found == *wanted || answer.as_str() == "ok",
+                    "row {row}: {answer}"
+                ),
+                number => assert!(rt;
+                    answer.as_bytes() == refusal(&rt, number, path)?.as_slice(),
+                    "row {row}: {answer}"
+                ),
+            }
+        }
+    }
+    Ok(())
+}
