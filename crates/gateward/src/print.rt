@@ -64,7 +64,7 @@ fn gateway_object(alloc: Global, name: &str, listeners: Vec<Value>) -> Result<Va
 }
 
 fn is_ours(world: &World, gateway: &Gateway) -> bool
-    ensures { result ≡ is_managed controller world.now.world gateway.now }
+    ensures { result ≡ is_managed controller world.now gateway.now }
 {
     world.is_managed(gateway, CONTROLLER.as_bytes())
 }
@@ -88,7 +88,7 @@ fn push_gateway(
     gateway: &Gateway,
     text: &mut String,
 ) -> Result<(), NoMemory>
-    ensures { OnOk result (string_bytes text.new ≡ string_bytes text.old ++ gateway_text world.now.world gateway.now) }
+    ensures { OnOk result (string_bytes text.new ≡ string_bytes text.old ++ gateway_text world.now gateway.now) }
 {
     if !is_ours(world, gateway) {
         return Ok(());
@@ -98,11 +98,11 @@ fn push_gateway(
 
 /// Adds the lines of the managed Gateways in key order.
 pub fn push_gateways(alloc: Global, world: &World, text: &mut String) -> Result<(), NoMemory>
-    ensures { OnOk result (string_bytes text.new ≡ string_bytes text.old ++ gateways_text world.now.world world.now.world.gateways) }
+    ensures { OnOk result (string_bytes text.new ≡ string_bytes text.old ++ gateways_text world.now world.now.gateways) }
 {
     let rows = world.gateways();
     'rows: for row in rows {
-        push_gateway(alloc, world, &row.object, text)?;
+        push_gateway(alloc, world, row.object(), text)?;
     }
     Ok(())
 }

@@ -58,8 +58,8 @@ fn apply_line<C: Clock>(
 ) -> Result<(), NoMemory>
     requires changes { report.old.changes < 2 ^ 63 }
     requires refused { report.old.refused < 2 ^ 63 }
-    ensures world { OnOk result (Applies (line.now ∷ []) (C.moments clock.old) (C.moments clock.new) report.old.world.world report.new.world.world) }
-    ensures kept { OnErr result (report.new.world.world ≡ report.old.world.world) }
+    ensures world { OnOk result (Applies (line.now ∷ []) (C.moments clock.old) (C.moments clock.new) report.old.world report.new.world) }
+    ensures kept { OnErr result (report.new.world ≡ report.old.world) }
     ensures text { OnOk result (string_bytes report.new.text ≡ string_bytes report.old.text ++ refused_text (refusals_from number (line.now ∷ []))) }
     ensures changes { OnOk result (report.new.changes ≡ report.old.changes + length (filter is_change (line.now ∷ []))) }
     ensures refused { OnOk result (report.new.refused ≡ report.old.refused + length (refusals_from number (line.now ∷ []))) }
@@ -69,21 +69,20 @@ fn apply_line<C: Clock>(
     }
     let now = clock.now();
     match read_object(alloc, line) {
-        Ok(object) => put(report, object, now),
+        Ok(object) => put(alloc, report, object, now),
         Err(refusal) => refuse(alloc, report, number, &refusal),
     }
 }
 
-fn put(report: &mut Report, object: Object, now: Second) -> Result<(), NoMemory>
+fn put(alloc: Global, report: &mut Report, object: Object, now: Second) -> Result<(), NoMemory>
     requires { report.old.changes < 2 ^ 63 }
-    ensures ok { OnOk result (report.new.world.world ≡ put_object report.old.world.world (seen object) now) }
-    ensures kept { OnErr result (report.new.world.world ≡ report.old.world.world) }
+    ensures ok { OnOk result (report.new.world ≡ put_object report.old.world (seen object) now) }
+    ensures kept { OnErr result (report.new.world ≡ report.old.world) }
     ensures counted { OnOk result (report.new.changes ≡ report.old.changes + 1) }
     ensures text { string_bytes report.new.text ≡ string_bytes report.old.text }
     ensures refused { report.new.refused ≡ report.old.refused }
 {
-    report.world.reserve()?;
-    report.world.put(object, now);
+    report.world.put(alloc, object, now)?;
     report.changes += 1;
     Ok(())
 }
@@ -97,7 +96,7 @@ fn refuse(
     requires { report.old.refused < 2 ^ 63 }
     ensures text { OnOk result (string_bytes report.new.text ≡ string_bytes report.old.text ++ line_of (refused_data (record { line = number; refusal = first_number refusal.now }))) }
     ensures counted { OnOk result (report.new.refused ≡ report.old.refused + 1) }
-    ensures world { report.new.world.world ≡ report.old.world.world }
+    ensures world { report.new.world ≡ report.old.world }
     ensures changes { report.new.changes ≡ report.old.changes }
     ensures named { OnOk result (¬ (refusal.now ≡ Refusal.NoMemory)) }
 {

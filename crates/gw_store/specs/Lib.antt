@@ -1,4 +1,3 @@
 pub mod Form
 pub mod Seen
 pub mod Table
-pub mod World

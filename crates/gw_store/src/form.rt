@@ -279,7 +279,7 @@ fn route(alloc: Global, name: Text, spec: &Cursor<'_>) -> Result<Route, Refusal>
     exactly(alloc, 2, spec)?;
     let parents = parents(alloc, spec)?;
     rules(alloc, spec)?;
-    Ok(Route::new(alloc, name, parents)?)
+    Ok(Route { name, parents })
 }
 
 #[tactic(auto, unfolding(crate::specs::Form::metadata_of))]

@@ -1,8 +1,7 @@
-ghost use Rattle.std.specs.Prelude.{◌≡◌, IfOk};
+ghost use Rattle.std.specs.Prelude.{◌≡◌};
 
 use crate::table::Keyed;
-use gw_text::{NoMemory, Text};
-use std::alloc::Global;
+use gw_text::Text;
 use std::marker::Model;
 
 /// A GatewayClass.
@@ -69,16 +68,12 @@ impl Keyed for Gateway {
     }
 }
 
-/// An HTTPRoute. It is one pointer wide, since Routes are many, and an insertion moves those behind it.
+/// An HTTPRoute.
 #[derive(Drop)]
 pub struct Route {
-    fields: Box<Fields>,
-}
-
-#[derive(Drop)]
-struct Fields {
-    name: Text,
-    parents: Vec<Text>,
+    pub name: Text,
+    /// The names of the Gateways that its parentRefs name, in list order.
+    pub parents: Vec<Text>,
 }
 
 impl Model for Route {
@@ -86,31 +81,14 @@ impl Model for Route {
 
     ghost Value = { Plain };
 
-    ghost view = { λ r. record { name = r.fields.value.name; parents = r.fields.value.parents.items } };
-}
-
-impl Route {
-    /// A Route of this name.
-    pub fn new(alloc: Global, name: Text, parents: Vec<Text>) -> Result<Self, NoMemory>
-        ensures { IfOk result (λ r. r ≡ record { name = name; parents = parents.items }) }
-    {
-        let fields = Box::new(alloc, Fields { name, parents })?;
-        Ok(Route { fields })
-    }
-
-    /// The names of the Gateways that its parentRefs name, in list order.
-    pub fn parents(&self) -> &[Text]
-        ensures { result.now ≡ self.now.parents }
-    {
-        self.fields.parents.as_slice()
-    }
+    ghost view = { λ r. record { name = r.name; parents = r.parents.items } };
 }
 
 impl Keyed for Route {
     ghost key = { λ r. r.name };
 
     fn key(&self) -> &[u8] {
-        self.fields.name.bytes()
+        self.name.bytes()
     }
 }
 

@@ -1,4 +1,4 @@
-ghost use Rattle.std.specs.Prelude.{◌≡◌, ℕ, ◌+◌, ◌-◌, ◌<◌, ◌≤◌, List, [], length, map, OnOk, OnErr, MatchResult, option_map, option_copied};
+ghost use Rattle.std.specs.Prelude.{◌≡◌, ℕ, ◌+◌, ◌-◌, ◌<◌, ◌≤◌, List, [], length, OnOk, OnErr, IfOk, MatchResult, option_copied};
 ghost use Rattle.std.specs.List.Sorted.{IsSearchInRange};
 ghost use Rattle.gw_text.specs.model.Held.{put, held_of, key_order, IsInKeyOrder};
 ghost use Rattle.gw_store.specs.Table.{StandsAt, IsMissingAt};
@@ -16,11 +16,17 @@ pub trait Keyed {
         ensures { result.now ≡ key self.now };
 }
 
-/// An object as it is held, with the moment at which its key was first put.
+/// An object as it is held, with the moment at which its key was first put. It is one pointer wide, since an
+/// insertion moves the rows behind it.
 #[derive(Drop)]
 pub struct Row<T: Drop> {
-    pub object: T,
-    pub first: Second,
+    fields: Box<Fields<T>>,
+}
+
+#[derive(Drop)]
+struct Fields<T: Drop> {
+    object: T,
+    first: Second,
 }
 
 impl<T: Drop> Model for Row<T> {
@@ -28,7 +34,31 @@ impl<T: Drop> Model for Row<T> {
 
     ghost Value = { Held T };
 
-    ghost view = { λ r. record { object = r.object; first = r.first } };
+    ghost view = { λ r. record { object = r.fields.value.object; first = r.fields.value.first } };
+}
+
+impl<T: Drop> Row<T> {
+    fn new(alloc: Global, object: T, first: Second) -> Result<Self, NoMemory>
+        ensures { IfOk result (λ r. r ≡ record { object = object; first = first }) }
+    {
+        let fields = Box::new(alloc, Fields { object, first })?;
+        Ok(Row { fields })
+    }
+
+    /// The object that is held.
+    pub fn object(&self) -> &T
+        ensures { result.now ≡ self.now.object }
+    {
+        &self.fields.object
+    }
+
+    // The other row's object; the moment stays.
+    fn take_object(&mut self, other: Row<T>)
+        ensures { self.new ≡ record self.old { object = other.object } }
+    {
+        let Fields { object, first: _ } = Box::into_inner(other.fields);
+        self.fields.object = object;
+    }
 }
 
 /// The objects of one kind in key order.
@@ -59,8 +89,7 @@ impl<T: Keyed + Drop> Table<T> {
         }
     }
 
-    /// Makes room for one object more.
-    pub fn reserve(&mut self) -> Result<(), NoMemory>
+    fn reserve(&mut self) -> Result<(), NoMemory>
         ensures held { self.new.held ≡ self.old.held }
         ensures ok { OnOk result (0 < self.new.spare) }
     {
@@ -75,13 +104,23 @@ impl<T: Keyed + Drop> Table<T> {
     }
 
     /// Holds `object` under its key, in place of the one that is held there, whose first moment stays.
-    pub fn put(&mut self, object: T, now: Second)
-        requires { 0 < self.old.spare }
-        ensures { self.new.held ≡ put T.key object now self.old.held }
+    pub fn hold(&mut self, alloc: Global, object: T, now: Second) -> Result<(), NoMemory>
+        ensures ok { OnOk result (self.new.held ≡ put T.key object now self.old.held) }
+        ensures err { OnErr result (self.new.held ≡ self.old.held) }
     {
-        match place(self.rows.as_slice(), object.key()) {
-            Ok(at) => self.rows[at].object = object,
-            Err(at) => self.rows.insert(at, Row { object, first: now }).unwrap(),
+        let row = Row::new(alloc, object, now)?;
+        self.reserve()?;
+        self.put(row);
+        Ok(())
+    }
+
+    fn put(&mut self, row: Row<T>)
+        requires { 0 < self.old.spare }
+        ensures { self.new.held ≡ put T.key row.object row.first self.old.held }
+    {
+        match place(self.rows.as_slice(), row.object().key()) {
+            Ok(at) => self.rows[at].take_object(row),
+            Err(at) => self.rows.insert(at, row).unwrap(),
         }
     }
 
@@ -108,5 +147,5 @@ fn place<T: Keyed + Drop>(rows: &[Row<T>], key: &[u8]) -> Result<usize, usize>
 fn compare<T: Keyed + Drop>(row: &Row<T>, key: &[u8]) -> Ordering
     ensures { result ≡ key_order (T.key row.now.object) key.now }
 {
-    row.object.key().cmp(&key)
+    row.object().key().cmp(&key)
 }

@@ -18,21 +18,17 @@ pub struct World {
 }
 
 impl Model for World {
-    ghost use Rattle.std.specs.Prelude.{min};
-    ghost use Rattle.gw_store.specs.World.{Stored};
+    ghost use Rattle.gw_text.specs.model.World.{World as Plain};
 
-    ghost Value = { Stored };
+    ghost Value = { Plain };
 
-    ghost view = { λ w. record {
-      world = record { classes = w.classes.held; gateways = w.gateways.held; routes = w.routes.held };
-      spare = min w.classes.spare (min w.gateways.spare w.routes.spare);
-    } };
+    ghost view = { λ w. record { classes = w.classes.held; gateways = w.gateways.held; routes = w.routes.held } };
 }
 
 impl World {
     /// Holds nothing.
     pub fn new(alloc: Global) -> Self
-        ensures { result.world ≡ nothing }
+        ensures { result ≡ nothing }
     {
         World {
             classes: Table::new(alloc),
@@ -41,31 +37,21 @@ impl World {
         }
     }
 
-    /// Makes room for one object more of each kind.
-    pub fn reserve(&mut self) -> Result<(), NoMemory>
-        ensures world { self.new.world ≡ self.old.world }
-        ensures ok { OnOk result (0 < self.new.spare) }
-    {
-        self.classes.reserve()?;
-        self.gateways.reserve()?;
-        self.routes.reserve()
-    }
-
     /// Holds the object under its kind and name, in place of the one that is held there.
-    pub fn put(&mut self, object: Object, at: Second)
-        requires { 0 < self.old.spare }
-        ensures { self.new.world ≡ put_object self.old.world (seen object) at }
+    pub fn put(&mut self, alloc: Global, object: Object, at: Second) -> Result<(), NoMemory>
+        ensures ok { OnOk result (self.new ≡ put_object self.old (seen object) at) }
+        ensures err { OnErr result (self.new ≡ self.old) }
     {
         match object {
-            Object::Class(class) => self.classes.put(class, at),
-            Object::Gateway(gateway) => self.gateways.put(gateway, at),
-            Object::Route(route) => self.routes.put(route, at),
+            Object::Class(class) => self.classes.hold(alloc, class, at),
+            Object::Gateway(gateway) => self.gateways.hold(alloc, gateway, at),
+            Object::Route(route) => self.routes.hold(alloc, route, at),
         }
     }
 
     /// The Gateways in the order of their names.
     pub fn gateways(&self) -> &[Row<Gateway>]
-        ensures { result.now ≡ self.now.world.gateways }
+        ensures { result.now ≡ self.now.gateways }
     {
         self.gateways.rows()
     }
@@ -73,10 +59,10 @@ impl World {
     /// Whether the Gateway's class is held and names this controller.
     #[tactic(auto, unfolding(gw_text::specs::model::World::is_managed))]
     pub fn is_managed(&self, gateway: &Gateway, controller: &[u8]) -> bool
-        ensures { result ≡ is_managed controller.now self.now.world gateway.now }
+        ensures { result ≡ is_managed controller.now self.now gateway.now }
     {
         match self.classes.get(gateway.class.bytes()) {
-            Some(row) => row.object.controller.bytes() == controller,
+            Some(row) => row.object().controller.bytes() == controller,
             None => false,
         }
     }
@@ -84,7 +70,7 @@ impl World {
     /// How many of the held Routes have a parentRef that names the Gateway.
     #[tactic(auto, unfolding(gw_text::specs::model::World::attached_routes))]
     pub fn attached_routes(&self, gateway: &Gateway) -> usize
-        ensures { result ≡ attached_routes self.now.world gateway.now }
+        ensures { result ≡ attached_routes self.now gateway.now }
     {
         count_attached(gateway.name.bytes(), self.routes.rows())
     }
@@ -94,15 +80,12 @@ fn count_attached(gateway: &[u8], rows: &[Row<Route>]) -> usize
     ensures { result ≡ count_by (λ h. list_any (bytes_eq gateway.now) h.object.parents) rows.now }
 {
     rows.iter()
-        .filter(|row| is_attached(gateway, &row.object))
+        .filter(|row| is_attached(gateway, row.object()))
         .count()
 }
 
 fn is_attached(gateway: &[u8], route: &Route) -> bool
     ensures { result ≡ list_any (bytes_eq gateway.now) route.now.parents }
 {
-    route
-        .parents()
-        .iter()
-        .any(|parent| gateway == parent.bytes())
+    route.parents.iter().any(|parent| gateway == parent.bytes())
 }

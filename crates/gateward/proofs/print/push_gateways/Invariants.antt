@@ -5,5 +5,5 @@ use Rattle.gateward.proofs.print.push_gateways.Given as goal
 
 abbrev pub invariant-rows : goal.invariant-rows
 invariant-rows l =
-    string_bytes l.text ++ gateways_text l.world.world (drop l.row-index l.rows)
-    ≡ string_bytes l.fn.text ++ gateways_text l.world.world l.rows
+    string_bytes l.text ++ gateways_text l.world (drop l.row-index l.rows)
+    ≡ string_bytes l.fn.text ++ gateways_text l.world l.rows

@@ -10,7 +10,7 @@ use Rattle.gateward.proofs.report.apply_lines.Given as goal
 abbrev pub invariant-lines : goal.invariant-lines
 invariant-lines g l = record {
   world : (after : Option (List ℤ)) (new : World) →
-      Applies (lines_left (option_copied l.rest)) (g.C.Clock.moments l.clock) after l.report.world.world new →
+      Applies (lines_left (option_copied l.rest)) (g.C.Clock.moments l.clock) after l.report.world new →
       Applies (lines_of l.input) (g.C.Clock.moments l.fn.clock) after nothing new;
   text : string_bytes l.report.text ++ refused_text (refusals_from l.number (lines_left (option_copied l.rest))) ≡ refused_text (refusals_from 1 (lines_of l.input));
   changes : l.report.changes + length (filter is_change (lines_left (option_copied l.rest))) ≡ length (filter is_change (lines_of l.input));
