@@ -1,6 +1,6 @@
 use super::*;
 use gw_json::{Cursor, Refusal, read_value};
-use gw_text::{Field, Key, Meta, Text};
+use gw_text::{Field, Host, Key, Meta, Text};
 use std::alloc::{AllocError, Global};
 use std::test::*;
 
@@ -223,10 +223,16 @@ fn ends_at(alloc: Global, row: &str, is_list: bool) -> Result<(), Fail> {
     let most = words.next().unwrap_or("").parse::<usize>()?;
     let begin = grown(alloc, begin, first, 1, "")?;
     let unit = grown(alloc, next, first, usize::from(is_list), "")?;
-    let count = most - usize::from(is_list);
+    let count = most.saturating_sub(usize::from(is_list));
     let longest = grown(alloc, begin.as_str(), unit.as_str(), count, end)?;
     meets(alloc, name, field, longest.as_str(), 0)?;
-    let longer = grown(alloc, begin.as_str(), unit.as_str(), count + 1, end)?;
+    let longer = grown(
+        alloc,
+        begin.as_str(),
+        unit.as_str(),
+        count.saturating_add(1),
+        end,
+    )?;
     meets(alloc, name, field, longer.as_str(), 6)
 }
 
@@ -501,7 +507,8 @@ fn put_backend(out: &mut String, alloc: Global, b: &BackendRef) -> Result<(), Al
             word(&b.name),
         ],
     )?;
-    put(out, &[port.as_str(), weight.as_str(), yes(b.filters)])
+    put(out, &[port.as_str(), weight.as_str()])?;
+    put(out, &[yes(b.filters)])
 }
 
 fn put_fields(out: &mut String, verb: &str, fields: &[Field]) -> Result<(), AllocError> {
@@ -578,12 +585,18 @@ fn put_rule(out: &mut String, alloc: Global, rule: &Rule) -> Result<(), AllocErr
     Ok(())
 }
 
+fn put_host(out: &mut String, host: &Host) -> Result<(), AllocError> {
+    let kind = if host.wild { "wild" } else { "host" };
+    put(out, &[kind])?;
+    put(out, &[word(&host.text)])
+}
+
 fn put_route(out: &mut String, alloc: Global, route: &HttpRoute) -> Result<(), AllocError> {
     for parent in &route.parent_refs {
         put_parent(out, alloc, parent)?;
     }
     for host in &route.hostnames {
-        put(out, &["host", yes(host.wild), word(&host.text)])?;
+        put_host(out, host)?;
     }
     for rule in &route.rules {
         put_rule(out, alloc, rule)?;
@@ -593,13 +606,13 @@ fn put_route(out: &mut String, alloc: Global, route: &HttpRoute) -> Result<(), A
 
 // Routes and what is read of them. The first is written as an API server writes it, with all of the filters.
 const ROUTES: &str = "
-{\"apiVersion\":\"gateway.networking.k8s.io/v1\",\"kind\":\"HTTPRoute\",\"metadata\":{\"annotations\":{\"kubectl.kubernetes.io/last-applied-configuration\":\"{}\\n\"},\"creationTimestamp\":\"2024-05-01T10:00:00Z\",\"generation\":2,\"managedFields\":[{\"apiVersion\":\"gateway.networking.k8s.io/v1\",\"fieldsType\":\"FieldsV1\",\"fieldsV1\":{\"f:spec\":{\".\":{},\"f:rules\":{}}},\"manager\":\"kubectl\",\"operation\":\"Apply\"}],\"name\":\"r\",\"namespace\":\"own\",\"resourceVersion\":\"912\",\"uid\":\"0b7e\"},\"spec\":{\"hostnames\":[\"shop.example.com\",\"*.example.org\"],\"parentRefs\":[{\"group\":\"gateway.networking.k8s.io\",\"kind\":\"Gateway\",\"name\":\"g\",\"namespace\":\"infra\",\"port\":80,\"sectionName\":\"http\"},{\"name\":\"h\"}],\"rules\":[{\"backendRefs\":[{\"group\":\"\",\"kind\":\"Service\",\"name\":\"s\",\"port\":80,\"weight\":9},{\"filters\":[{\"type\":\"URLRewrite\"}],\"group\":\"multicluster.x-k8s.io\",\"kind\":\"ServiceImport\",\"name\":\"t\",\"namespace\":\"far\",\"weight\":0}],\"filters\":[{\"requestHeaderModifier\":{\"add\":[{\"name\":\"X-Add\",\"value\":\"1\"}],\"remove\":[\"X-Gone\",\"X-Old\"],\"set\":[{\"name\":\"X-Set\",\"value\":\"2\"},{\"name\":\"X-Set\",\"value\":\"3\"}]},\"type\":\"RequestHeaderModifier\"},{\"responseHeaderModifier\":{\"set\":[{\"name\":\"Server\",\"value\":\"\"}]},\"type\":\"ResponseHeaderModifier\"},{\"type\":\"URLRewrite\",\"urlRewrite\":{\"hostname\":\"elsewhere.example.com\",\"path\":{\"replacePrefixMatch\":\"/new\",\"type\":\"ReplacePrefixMatch\"}}},{\"requestMirror\":{\"backendRef\":{\"name\":\"m\"}},\"type\":\"RequestMirror\"}],\"matches\":[{\"headers\":[{\"name\":\"Version\",\"type\":\"Exact\",\"value\":\"two\"},{\"name\":\"X-Re\",\"type\":\"RegularExpression\",\"value\":\"a+\"}],\"method\":\"GET\",\"path\":{\"type\":\"Exact\",\"value\":\"/cart\"},\"queryParams\":[{\"name\":\"q\",\"value\":\"1\"}]},{\"path\":{\"type\":\"RegularExpression\",\"value\":\"/a?\"}}],\"timeouts\":{\"request\":\"10s\"}},{\"filters\":[{\"requestRedirect\":{\"hostname\":\"new.example.com\",\"path\":{\"replaceFullPath\":\"/\",\"type\":\"ReplaceFullPath\"},\"port\":8443,\"scheme\":\"https\",\"statusCode\":301},\"type\":\"RequestRedirect\"},{\"requestRedirect\":{\"path\":{\"type\":\"Strip\"}},\"type\":\"RequestRedirect\"}]}]},\"status\":{\"parents\":[{\"conditions\":[],\"controllerName\":\"example.com/other\",\"parentRef\":{\"name\":\"g\"}}]}} => parent gateway.networking.k8s.io Gateway infra g | http 80 | parent gateway.networking.k8s.io Gateway own h | - 0 | host false shop.example.com | host true example.org | rule true | match Exact /cart GET | header Exact Version two | header RegularExpression X-Re a+ | query Exact q 1 | match RegularExpression /a? - | request | set X-Set 2 | set X-Set 3 | add X-Add 1 | remove X-Gone | remove X-Old | response | set Server  | rewrite elsewhere.example.com | prefix /new | filter RequestMirror | backend  Service own s | 80 9 false | backend multicluster.x-k8s.io ServiceImport far t | 0 0 true | rule false | match PathPrefix / - | redirect https new.example.com 8443 301 | full / | redirect - - 0 0 | other Strip |
+{\"apiVersion\":\"gateway.networking.k8s.io/v1\",\"kind\":\"HTTPRoute\",\"metadata\":{\"annotations\":{\"kubectl.kubernetes.io/last-applied-configuration\":\"{}\\n\"},\"creationTimestamp\":\"2024-05-01T10:00:00Z\",\"generation\":2,\"managedFields\":[{\"apiVersion\":\"gateway.networking.k8s.io/v1\",\"fieldsType\":\"FieldsV1\",\"fieldsV1\":{\"f:spec\":{\".\":{},\"f:rules\":{}}},\"manager\":\"kubectl\",\"operation\":\"Apply\"}],\"name\":\"r\",\"namespace\":\"own\",\"resourceVersion\":\"912\",\"uid\":\"0b7e\"},\"spec\":{\"hostnames\":[\"shop.example.com\",\"*.example.org\"],\"parentRefs\":[{\"group\":\"gateway.networking.k8s.io\",\"kind\":\"Gateway\",\"name\":\"g\",\"namespace\":\"infra\",\"port\":80,\"sectionName\":\"http\"},{\"name\":\"h\"}],\"rules\":[{\"backendRefs\":[{\"group\":\"\",\"kind\":\"Service\",\"name\":\"s\",\"port\":80,\"weight\":9},{\"filters\":[{\"type\":\"URLRewrite\"}],\"group\":\"multicluster.x-k8s.io\",\"kind\":\"ServiceImport\",\"name\":\"t\",\"namespace\":\"far\",\"weight\":0}],\"filters\":[{\"requestHeaderModifier\":{\"add\":[{\"name\":\"X-Add\",\"value\":\"1\"}],\"remove\":[\"X-Gone\",\"X-Old\"],\"set\":[{\"name\":\"X-Set\",\"value\":\"2\"},{\"name\":\"X-Set\",\"value\":\"3\"}]},\"type\":\"RequestHeaderModifier\"},{\"responseHeaderModifier\":{\"set\":[{\"name\":\"Server\",\"value\":\"\"}]},\"type\":\"ResponseHeaderModifier\"},{\"type\":\"URLRewrite\",\"urlRewrite\":{\"hostname\":\"elsewhere.example.com\",\"path\":{\"replacePrefixMatch\":\"/new\",\"type\":\"ReplacePrefixMatch\"}}},{\"requestMirror\":{\"backendRef\":{\"name\":\"m\"}},\"type\":\"RequestMirror\"}],\"matches\":[{\"headers\":[{\"name\":\"Version\",\"type\":\"Exact\",\"value\":\"two\"},{\"name\":\"X-Re\",\"type\":\"RegularExpression\",\"value\":\"a+\"}],\"method\":\"GET\",\"path\":{\"type\":\"Exact\",\"value\":\"/cart\"},\"queryParams\":[{\"name\":\"q\",\"value\":\"1\"}]},{\"path\":{\"type\":\"RegularExpression\",\"value\":\"/a?\"}}],\"timeouts\":{\"request\":\"10s\"}},{\"filters\":[{\"requestRedirect\":{\"hostname\":\"new.example.com\",\"path\":{\"replaceFullPath\":\"/\",\"type\":\"ReplaceFullPath\"},\"port\":8443,\"scheme\":\"https\",\"statusCode\":301},\"type\":\"RequestRedirect\"},{\"requestRedirect\":{\"path\":{\"type\":\"Strip\"}},\"type\":\"RequestRedirect\"}]}]},\"status\":{\"parents\":[{\"conditions\":[],\"controllerName\":\"example.com/other\",\"parentRef\":{\"name\":\"g\"}}]}} => parent gateway.networking.k8s.io Gateway infra g | http 80 | parent gateway.networking.k8s.io Gateway own h | - 0 | host | shop.example.com | wild | example.org | rule true | match Exact /cart GET | header Exact Version two | header RegularExpression X-Re a+ | query Exact q 1 | match RegularExpression /a? - | request | set X-Set 2 | set X-Set 3 | add X-Add 1 | remove X-Gone | remove X-Old | response | set Server  | rewrite elsewhere.example.com | prefix /new | filter RequestMirror | backend  Service own s | 80 9 | false | backend multicluster.x-k8s.io ServiceImport far t | 0 0 | true | rule false | match PathPrefix / - | redirect https new.example.com 8443 301 | full / | redirect - - 0 0 | other Strip |
 {\"spec\":{}} => rule false | match PathPrefix / - |
 {\"spec\":{\"rules\":null}} => rule false | match PathPrefix / - |
 {\"spec\":{\"parentRefs\":[],\"hostnames\":[],\"rules\":[]}} => 
 {\"spec\":{\"rules\":[{\"matches\":[],\"timeouts\":null},{\"matches\":[{},{\"path\":{\"value\":\"/a\"}},{\"path\":{\"type\":\"Exact\"}}],\"timeouts\":{}}]}} => rule false | match PathPrefix / - | rule true | match PathPrefix / - | match PathPrefix /a - | match Exact / - |
-{\"spec\":{\"rules\":[{\"backendRefs\":[{\"name\":\"s\",\"port\":1,\"filters\":[]},{\"name\":\"s\",\"port\":2,\"filters\":[null]},{\"name\":\"s\",\"kind\":\"Pod\"}]}]}} => rule false | match PathPrefix / - | backend  Service own s | 1 1 false | backend  Service own s | 2 1 true | backend  Pod own s | 0 1 false |
-{\"apiVersion\":\"gateway.networking.k8s.io/v1\",\"kind\":\"HTTPRoute\",\"metadata\":{\"creationTimestamp\":\"2024-05-01T10:00:00Z\",\"generation\":2,\"managedFields\":[{\"manager\":\"kubectl\"}],\"name\":\"r\",\"namespace\":\"default\",\"resourceVersion\":\"912\",\"uid\":\"0b7e\"},\"spec\":{\"hostnames\":[\"shop.example.com\"],\"parentRefs\":[{\"group\":\"gateway.networking.k8s.io\",\"kind\":\"Gateway\",\"name\":\"g\"}],\"rules\":[{\"backendRefs\":[{\"group\":\"\",\"kind\":\"Service\",\"name\":\"s\",\"port\":80,\"weight\":1}],\"matches\":[{\"path\":{\"type\":\"PathPrefix\",\"value\":\"/\"}}]}]},\"status\":{\"parents\":[]}} => parent gateway.networking.k8s.io Gateway own g | - 0 | host false shop.example.com | rule false | match PathPrefix / - | backend  Service own s | 80 1 false |
+{\"spec\":{\"rules\":[{\"backendRefs\":[{\"name\":\"s\",\"port\":1,\"filters\":[]},{\"name\":\"s\",\"port\":2,\"filters\":[null]},{\"name\":\"s\",\"kind\":\"Pod\"}]}]}} => rule false | match PathPrefix / - | backend  Service own s | 1 1 | false | backend  Service own s | 2 1 | true | backend  Pod own s | 0 1 | false |
+{\"apiVersion\":\"gateway.networking.k8s.io/v1\",\"kind\":\"HTTPRoute\",\"metadata\":{\"creationTimestamp\":\"2024-05-01T10:00:00Z\",\"generation\":2,\"managedFields\":[{\"manager\":\"kubectl\"}],\"name\":\"r\",\"namespace\":\"default\",\"resourceVersion\":\"912\",\"uid\":\"0b7e\"},\"spec\":{\"hostnames\":[\"shop.example.com\"],\"parentRefs\":[{\"group\":\"gateway.networking.k8s.io\",\"kind\":\"Gateway\",\"name\":\"g\"}],\"rules\":[{\"backendRefs\":[{\"group\":\"\",\"kind\":\"Service\",\"name\":\"s\",\"port\":80,\"weight\":1}],\"matches\":[{\"path\":{\"type\":\"PathPrefix\",\"value\":\"/\"}}]}]},\"status\":{\"parents\":[]}} => parent gateway.networking.k8s.io Gateway own g | - 0 | host | shop.example.com | rule false | match PathPrefix / - | backend  Service own s | 80 1 | false |
 ";
 
 #[test]
