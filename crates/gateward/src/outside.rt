@@ -1,4 +1,4 @@
-ghost use Rattle.std.specs.Prelude.{None};
+ghost use Rattle.std.specs.Prelude.{◌≡◌, None, pos};
 
 use gw_link::{Clock, Failed, Sink, Source};
 use gw_text::Second;
@@ -14,7 +14,10 @@ pub struct StdSource<R: Read + Drop> {
 }
 
 impl<R: Read + Drop> StdSource<R> {
-    pub fn new(reader: R) -> Self {
+    /// A source over a reader, of which nothing is read yet.
+    pub fn new(reader: R) -> Self
+        ensures { result ≡ record { reader = reader; given = 0; faults = 0 } }
+    {
         StdSource {
             reader,
             given: 0,
@@ -50,7 +53,10 @@ pub struct StdSink<W: Write + Drop> {
 }
 
 impl<W: Write + Drop> StdSink<W> {
-    pub fn new(writer: W) -> Self {
+    /// A sink over a writer, to which nothing is written yet.
+    pub fn new(writer: W) -> Self
+        ensures { result ≡ record { writer = writer; faults = 0 } }
+    {
         StdSink { writer, faults: 0 }
     }
 }
@@ -79,7 +85,10 @@ pub struct WallClock<R: std::rt::Clock + Drop> {
 }
 
 impl<R: std::rt::Clock + Drop> WallClock<R> {
-    pub fn new(rt: R) -> Self {
+    /// A clock that has not been read yet.
+    pub fn new(rt: R) -> Self
+        ensures { result ≡ record { rt = rt; last = pos 0 } }
+    {
         WallClock {
             rt,
             last: Second(0),

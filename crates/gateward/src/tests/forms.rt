@@ -130,29 +130,28 @@ fn routes(rt: HostRuntime) -> Result<(), Fail> {
             9,
         ),
         ("{\"parentRefs\":[\"g\"],\"rules\":[]}", 9),
-        ("{\"parentRefs\":[],\"rules\":[{}]}", 9),
-        (
-            "{\"parentRefs\":[],\"rules\":[{\"backendRefs\":[],\"matches\":[]}]}",
-            9,
-        ),
-        (
-            "{\"parentRefs\":[],\"rules\":[{\"backendRefs\":[{\"name\":\"s\"}]}]}",
-            9,
-        ),
-        (
-            "{\"parentRefs\":[],\"rules\":[{\"backendRefs\":[{\"name\":\"s\",\"port\":0}]}]}",
-            9,
-        ),
-        (
-            "{\"parentRefs\":[],\"rules\":[{\"backendRefs\":[{\"name\":\"s\",\"port\":80,\"weight\":1}]}]}",
-            9,
-        ),
-        (
-            "{\"parentRefs\":[],\"rules\":[{\"backendRefs\":[{\"name\":\"S\",\"port\":80}]}]}",
-            9,
-        ),
     ] {
         expect_object(&rt, "HTTPRoute", "{\"name\":\"r\"}", spec, refusal)?;
+    }
+    Ok(())
+}
+
+#[test]
+fn rules(rt: HostRuntime) -> Result<(), Fail> {
+    for (rule, refusal) in [
+        ("{\"backendRefs\":[{\"name\":\"s\",\"port\":80}]}", 0),
+        ("{}", 9),
+        ("{\"backendRefs\":[],\"matches\":[]}", 9),
+        ("{\"backendRefs\":[{\"name\":\"s\"}]}", 9),
+        ("{\"backendRefs\":[{\"name\":\"s\",\"port\":0}]}", 9),
+        (
+            "{\"backendRefs\":[{\"name\":\"s\",\"port\":80,\"weight\":1}]}",
+            9,
+        ),
+        ("{\"backendRefs\":[{\"name\":\"S\",\"port\":80}]}", 9),
+    ] {
+        let spec = format!(in rt.alloc(); "{{\"parentRefs\":[],\"rules\":[{rule}]}}")?;
+        expect_object(&rt, "HTTPRoute", "{\"name\":\"r\"}", spec.as_str(), refusal)?;
     }
     Ok(())
 }
@@ -185,6 +184,15 @@ fn events(rt: HostRuntime) -> Result<(), Fail> {
             "{\"type\":\"DELETED\",\"object\":{\"apiVersion\":\"v\",\"kind\":\"k\"}}",
             9,
         ),
+    ] {
+        expect_line(&rt, line, refusal)?;
+    }
+    Ok(())
+}
+
+#[test]
+fn what_is_no_event(rt: HostRuntime) -> Result<(), Fail> {
+    for (line, refusal) in [
         (
             "{\"type\":\"CHANGED\",\"object\":{\"apiVersion\":\"v1\",\"kind\":\"Service\"}}",
             2,
