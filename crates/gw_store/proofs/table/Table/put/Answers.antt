@@ -18,7 +18,7 @@ pub returns-in-Ok : goal.returns-in-Ok
 returns-in-Ok g c =
     let place = rw (c.as_slice.ensures.value, c.key.ensures, c.object.ensures) at c.in-Ok.ensures.place
     in rw (c.take_object.ensures, ← c.self.view_is, ap (λ (h : Held g.row.T.Denot). h.first) c.index_mut.ensures.value)
-      (put-standing g.T.Keyed.key _ _ _ _ c.index_mut.result.now place)
+    (put-standing g.T.Keyed.key _ _ _ _ c.index_mut.result.now place)
 
 pub returns-in-Err : goal.returns-in-Err
 returns-in-Err g c =
