@@ -1,5 +1,7 @@
 -- What contracts speak of: objects, counts and lists as plain records, a file for each subject.
 pub mod Addresses
+pub mod Conditions
+pub mod Doors
 pub mod Fields
 pub mod Filters
 pub mod Forms
@@ -8,6 +10,7 @@ pub mod Gateways
 pub mod Grants
 pub mod Held
 pub mod Hostnames
+pub mod Listeners
 pub mod Matches
 pub mod Meta
 pub mod Moments
@@ -21,4 +24,5 @@ pub mod Routes
 pub mod Selectors
 pub mod Services
 pub mod Slices
+pub mod Statuses
 pub mod World

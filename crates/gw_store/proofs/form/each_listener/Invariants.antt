@@ -1,9 +1,0 @@
--- What is read so far, then each of the rest, is each of all.
-use Rattle.std.proofs.Common.{◌≡◌, map, drop}
-use Rattle.gw_json.specs.Words.{each, after}
-use Rattle.gw_json.specs.Fields.{place_of}
-use Rattle.gw_store.specs.Form.{listener_of}
-use Rattle.gw_store.proofs.form.each_listener.Given as goal
-
-abbrev pub invariant-places : goal.invariant-places
-invariant-places l = each listener_of (map place_of l.places) ≡ after l.listeners.items (each listener_of (map place_of (drop l.place-index l.places)))
