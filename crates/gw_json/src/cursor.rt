@@ -77,10 +77,10 @@ impl<'v> Cursor<'v> {
         }
     }
 
-    /// The text, of at most `most` bytes.
+    /// The text, of at most `most` bytes, where it stands.
     #[tactic(auto, unfolding(crate::specs::Fields::text_of))]
-    pub fn text(&self, alloc: Global, most: usize) -> Result<String, Refusal>
-        ensures { Gives string_bytes result (text_of most (place_of self.now)) }
+    pub fn text_in(&self, alloc: Global, most: usize) -> Result<&'v str, Refusal>
+        ensures { Gives (λ text. text.now) result (text_of most (place_of self.now)) }
     {
         let Some(text) = self.value.as_str() else {
             return Err(self.wrong_type(alloc)?);
@@ -88,7 +88,14 @@ impl<'v> Cursor<'v> {
         if text.len() > most {
             return Err(self.too_long(alloc)?);
         }
-        Ok(String::from_str(alloc, text)?)
+        Ok(text)
+    }
+
+    /// The text, of at most `most` bytes, once more.
+    pub fn text(&self, alloc: Global, most: usize) -> Result<String, Refusal>
+        ensures { Gives string_bytes result (text_of most (place_of self.now)) }
+    {
+        Ok(String::from_str(alloc, self.text_in(alloc, most)?)?)
     }
 
     /// The whole number, from `least` to `most`.
