@@ -104,6 +104,11 @@ fn types(rt: HostRuntime) -> Result<(), Fail> {
         assert_eq!(rt; refused(at.get(alloc, "a")), object, "get of {text}");
         assert_eq!(rt; refused(at.members(alloc)), object, "members of {text}");
         assert_eq!(rt; refused(at.items(alloc, 3)), items, "items of {text}");
+        assert_eq!(rt;
+            refused(at.item_count(alloc)).is_some(),
+            items == Some(4),
+            "count of {text}"
+        );
         assert_eq!(rt; refused(at.text(alloc, 3)), texts, "text of {text}");
         assert_eq!(rt; refused(at.truth(alloc)), truth, "truth of {text}");
     }
