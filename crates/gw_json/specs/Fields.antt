@@ -61,6 +61,12 @@ abbrev pub places_from : List ℕ → ℕ → Items → List Place
 places_from path index no_items = []
 places_from path index (item d ds) = record { value = d; path = item_path path index } ∷ places_from path (index + 1) ds
 
+-- How many items the list has.
+unfoldable pub item_count_of : Place → Result ℕ Refusal
+item_count_of at = do
+  items ← or (WrongType at.path) (as_array at.value)
+  Ok (items_len items)
+
 -- A list of at most so many items.
 unfoldable pub items_of : ℕ → Place → Result (List Place) Refusal
 items_of most at = do

@@ -2,4 +2,5 @@ pub mod Fields
 pub mod Lines
 pub mod Paths
 pub mod Refusals
+pub mod Rows
 pub mod Words

@@ -4,7 +4,7 @@ ghost use Rattle.std.specs.List.Sorted.{IsStrictlySortedBy};
 ghost use Rattle.std.specs.Map.{keys_of};
 ghost use Rattle.serde_json.specs.View.{view, items_view, members_view};
 ghost use Rattle.gw_json.specs.Words.{Gives};
-ghost use Rattle.gw_json.specs.Fields.{Place, place_of, object_of, count_of, field_of, need_of, items_of, text_of, number_of, truth_of, members_of, named_place, places_from, named_from, IsInByteOrder};
+ghost use Rattle.gw_json.specs.Fields.{Place, place_of, object_of, count_of, field_of, need_of, item_count_of, items_of, text_of, number_of, truth_of, members_of, named_place, places_from, named_from, IsInByteOrder};
 
 use crate::refusal::{Path, Refusal};
 use serde_json::{Map, Value};
@@ -77,10 +77,10 @@ impl<'v> Cursor<'v> {
         }
     }
 
-    /// The text, of at most `most` bytes.
+    /// The text, of at most `most` bytes, where it stands.
     #[tactic(auto, unfolding(crate::specs::Fields::text_of))]
-    pub fn text(&self, alloc: Global, most: usize) -> Result<String, Refusal>
-        ensures { Gives string_bytes result (text_of most (place_of self.now)) }
+    pub fn text_in(&self, alloc: Global, most: usize) -> Result<&'v str, Refusal>
+        ensures { Gives (λ text. text.now) result (text_of most (place_of self.now)) }
     {
         let Some(text) = self.value.as_str() else {
             return Err(self.wrong_type(alloc)?);
@@ -88,7 +88,14 @@ impl<'v> Cursor<'v> {
         if text.len() > most {
             return Err(self.too_long(alloc)?);
         }
-        Ok(String::from_str(alloc, text)?)
+        Ok(text)
+    }
+
+    /// The text, of at most `most` bytes, once more.
+    pub fn text(&self, alloc: Global, most: usize) -> Result<String, Refusal>
+        ensures { Gives string_bytes result (text_of most (place_of self.now)) }
+    {
+        Ok(String::from_str(alloc, self.text_in(alloc, most)?)?)
     }
 
     /// The whole number, from `least` to `most`.
@@ -116,6 +123,17 @@ impl<'v> Cursor<'v> {
     {
         match self.value.as_bool() {
             Some(truth) => Ok(truth),
+            None => Err(self.wrong_type(alloc)?),
+        }
+    }
+
+    /// How many items the list has, which may be any number.
+    #[tactic(auto, using(crate::proofs::ValueLemmas::items_len_is), unfolding(crate::specs::Fields::item_count_of))]
+    pub fn item_count(&self, alloc: Global) -> Result<usize, Refusal>
+        ensures { Gives (λ n. n) result (item_count_of (place_of self.now)) }
+    {
+        match self.value.as_array() {
+            Some(items) => Ok(items.len()),
             None => Err(self.wrong_type(alloc)?),
         }
     }

@@ -4,11 +4,14 @@
 #![tactic(auto)]
 
 mod cursor;
+mod items;
 mod line;
 mod refusal;
+mod rows;
 #[cfg(test)]
 mod tests;
 
 pub use cursor::Cursor;
+pub use items::{Item, each_item};
 pub use line::{MAX_LINE, push_line, read_value};
 pub use refusal::{Path, Refusal};

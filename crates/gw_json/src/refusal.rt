@@ -101,8 +101,6 @@ pub enum Refusal {
     TooLong(Path),
     /// No more objects are taken.
     Full,
-    /// The object is outside the forms that are read so far.
-    NotYet,
     /// Memory ran out: nothing is said of the line.
     NoMemory,
 }
@@ -120,7 +118,6 @@ impl Refusal {
             Refusal::BadValue(_) => 5,
             Refusal::TooLong(_) => 6,
             Refusal::Full => 7,
-            Refusal::NotYet => 9,
             Refusal::NoMemory => 0,
         }
     }

@@ -1,3 +1,5 @@
+ghost use Rattle.gw_json.specs.Rows.{port_of};
+
 use super::*;
 use serde_json::{Value, json};
 use std::alloc::{AllocError, Global};
@@ -102,6 +104,11 @@ fn types(rt: HostRuntime) -> Result<(), Fail> {
         assert_eq!(rt; refused(at.get(alloc, "a")), object, "get of {text}");
         assert_eq!(rt; refused(at.members(alloc)), object, "members of {text}");
         assert_eq!(rt; refused(at.items(alloc, 3)), items, "items of {text}");
+        assert_eq!(rt;
+            refused(at.item_count(alloc)).is_some(),
+            items == Some(4),
+            "count of {text}"
+        );
         assert_eq!(rt; refused(at.text(alloc, 3)), texts, "text of {text}");
         assert_eq!(rt; refused(at.truth(alloc)), truth, "truth of {text}");
     }
@@ -269,5 +276,104 @@ fn printed_lines(rt: HostRuntime) -> Result<(), Fail> {
         out.as_str(),
         "first\n{\"line\":2,\"none\":null,\"path\":\"a\\n\\\"\u{e9}\"}\n"
     );
+    Ok(())
+}
+
+// A port, as an item of a list.
+#[derive(Drop)]
+struct Port {
+    number: u16,
+}
+
+impl std::marker::Model for Port {
+    ghost use Rattle.std.specs.Prelude.{ℕ};
+
+    ghost Value = { ℕ };
+
+    ghost view = { λ p. p.number };
+}
+
+impl Item for Port {
+    ghost of = { port_of };
+
+    fn read(alloc: Global, at: &Cursor<'_>) -> Result<Port, Refusal> {
+        Ok(Port {
+            number: at.port(alloc)?,
+        })
+    }
+}
+
+// The sum of the ports in a list of at most two.
+fn ports_in(alloc: Global, at: &Cursor<'_>) -> Result<u64, Refusal> {
+    let ports: Vec<Port> = each_item(alloc, at.list(alloc, "ports", 2)?.as_slice())?;
+    let mut sum: u64 = 0;
+    for port in &ports {
+        sum = sum.wrapping_add(u64::from(port.number));
+    }
+    Ok(sum)
+}
+
+// What each call for a field answers at the field of that name: the number of a refusal, or some text.
+fn row(alloc: Global, call: &[u8], at: &Cursor<'_>) -> Result<String, Refusal> {
+    match call {
+        b"p" => Ok(format!(in alloc; "{}", at.need_port(alloc, "p")?)?),
+        b"q" => Ok(format!(in alloc; "{:?}", at.some_port(alloc, "p")?)?),
+        b"t" => Ok(format!(in alloc; "{}", at.need_text(alloc, "t", 2)?)?),
+        b"u" => Ok(format!(in alloc; "{:?}", at.some_text(alloc, "t", 2)?)?),
+        b"s" => Ok(format!(in alloc; "{}", at.spec(alloc)?.path.as_str())?),
+        b"l" => Ok(format!(in alloc; "{}", at.need_list(alloc, "l", 2)?.len())?),
+        b"m" => Ok(format!(in alloc; "{}", at.list(alloc, "l", 2)?.len())?),
+        b"e" => Ok(format!(in alloc; "{}", at.field_members(alloc, "spec")?.len())?),
+        b"i" => Ok(format!(in alloc; "{}", ports_in(alloc, at)?)?),
+        _ => Ok(format!(in alloc; "{}", at.is_given(alloc, "t")?)?),
+    }
+}
+
+#[test]
+fn rows(rt: HostRuntime) -> Result<(), Fail> {
+    let alloc = rt.alloc();
+    let table = b"p {\"p\":80} 80
+p {} 3 p
+p {\"p\":0} 5 p
+p {\"p\":65536} 5 p
+q {\"p\":65535} Some(65535)
+q {\"p\":null} None
+t {\"t\":\"ab\"} ab
+t {\"t\":\"abc\"} 6 t
+t {} 3 t
+u {\"t\":\"\"} Some(\"\")
+u {} None
+u {\"t\":1} 4 t
+s {\"spec\":{}} spec
+s {\"spec\":[]} 4 spec
+s {} 3 spec
+l {\"l\":[0,null]} 2
+l {\"l\":[0,0,0]} 6 l
+l {} 3 l
+m {\"l\":[0]} 1
+m {} 0
+m {\"l\":{}} 4 l
+e {\"spec\":{\"a\":null}} 1
+e {} 0
+e {\"spec\":0} 4 spec
+i {\"ports\":[80,81]} 161
+i {\"ports\":[80,0]} 5 ports[1]
+i {} 0
+g {\"t\":0} true
+g {\"t\":null} false
+g [] 4 ";
+    for line in table.split(|b| *b == b'\n') {
+        let mut parts = line.splitn(3, |b| *b == b' ');
+        let (call, text, want) = (parts.next(), parts.next(), parts.next());
+        let value = read_value(alloc, text.unwrap_or(b""))
+            .ok()
+            .ok_or("the row is JSON")?;
+        let at = Cursor::root(alloc, &value).ok().ok_or("there is memory")?;
+        let told = match row(alloc, call.unwrap_or(b""), &at) {
+            Ok(told) => told,
+            Err(refusal) => printed(alloc, &refusal)?,
+        };
+        assert_eq!(rt; told.as_bytes(), want.unwrap_or(b""), "{line:?}");
+    }
     Ok(())
 }

@@ -1,9 +1,10 @@
 //! Lists whose items are read alike.
 ghost use Rattle.std.specs.Prelude.{map};
 ghost use Rattle.gw_json.specs.Words.{Gives, each};
-ghost use Rattle.gw_json.specs.Fields.{Place, place_of};
+ghost use Rattle.gw_json.specs.Fields.{place_of};
 
-use gw_json::{Cursor, Refusal};
+use crate::cursor::Cursor;
+use crate::refusal::Refusal;
 use std::alloc::Global;
 
 /// What is read from one item of a list.
