@@ -116,10 +116,13 @@ is_route (a_namespace x) = false
 is_route (a_service x) = false
 is_route (a_slice x) = false
 
--- A put of a new key that would be one object, or one HTTPRoute, too many.
+-- As many objects, or HTTPRoutes, are held as can be.
+abbrev pub has_no_room : World → Object → Bool
+has_no_room w object = nat_le most_objects (object_count w) || (is_route object && nat_le most_routes (length w.routes))
+
+-- A put of a new key for which there is no room.
 abbrev pub is_one_too_many : World → Event → Bool
-is_one_too_many w (puts object) =
-    not (is_held w object) && (nat_le most_objects (object_count w) || (is_route object && nat_le most_routes (length w.routes)))
+is_one_too_many w (puts object) = not (is_held w object) && has_no_room w object
 is_one_too_many w (removes kind key) = false
 
 -- No change is taken that holds one object too many, or whose number would no longer be one of 64 bits.
