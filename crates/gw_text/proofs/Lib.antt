@@ -1,3 +1,4 @@
 pub mod Printing
 pub mod Calendar
 pub mod Moments
+pub mod Beginnings

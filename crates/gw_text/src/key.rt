@@ -1,9 +1,10 @@
-ghost use Rattle.std.specs.Prelude.{◌≡◌, ◌↔◌, IfOk, IsTrue};
+ghost use Rattle.std.specs.Prelude.{◌≡◌, ◌↔◌, ◌++◌, codes, IfOk, IsTrue};
 ghost use Rattle.std.specs.Cmp.Lexicographic.{slice_cmp};
-ghost use Rattle.std.specs.Ordering.{nat_cmp};
+ghost use Rattle.std.specs.Ordering.{nat_cmp, is_lt};
 ghost use Rattle.gw_text.specs.Parsing.{Parses};
 ghost use Rattle.gw_text.specs.model.Forms as forms;
 ghost use Rattle.gw_text.specs.model.Names.{separator, joined};
+ghost use Rattle.gw_text.specs.model.World.{is_in_namespace};
 
 use crate::name::{TextFault, is_name, is_namespace};
 use crate::text::Text;
@@ -70,6 +71,33 @@ impl Key {
             .chain(other.separator())
             .chain(other.name.bytes());
         left.cmp(right)
+    }
+
+    /// Whether the printed text stands before those of all objects of the namespace.
+    pub fn is_before(&self, namespace: &Text) -> bool
+        ensures { result ≡ is_lt (slice_cmp nat_cmp (joined self.now) (namespace.now ++ codes "/")) }
+    {
+        let text = self
+            .namespace
+            .bytes()
+            .iter()
+            .chain(self.separator())
+            .chain(self.name.bytes());
+        text.cmp(namespace.bytes().iter().chain(b"/")).is_lt()
+    }
+
+    /// Whether the object of this key stands in the namespace.
+    pub fn is_in(&self, namespace: &Text) -> bool
+        ensures { result ≡ is_in_namespace namespace.now (joined self.now) }
+    {
+        let text = self
+            .namespace
+            .bytes()
+            .iter()
+            .chain(self.separator())
+            .chain(self.name.bytes());
+        let beginning = text.take(namespace.bytes().len() + 1);
+        beginning.cmp(namespace.bytes().iter().chain(b"/")).is_eq()
     }
 
     /// Whether both keys have the same namespace and name.

@@ -1,6 +1,6 @@
 -- The conditions of a Gateway and of its listeners: two tables, in which the first row that holds counts. Source:
 -- GatewayStatus, ListenerStatus and their condition types in the Gateway API reference.
-use Rattle.std.specs.Prelude.{ℕ, List, [], ◌∷◌, codes, Bool, true, false, not, ◌&&◌, ◌||◌, nat_eq, bytes_eq, if◌then◌else◌, Option, Some, None, is_some, option_map, option_and_then, map}
+use Rattle.std.specs.Prelude.{ℕ, List, [], ◌∷◌, codes, Bool, true, false, not, ◌&&◌, ◌||◌, nat_eq, bytes_eq, if◌then◌else◌, Option, Some, None, is_some, option_map, map}
 use Rattle.std.specs.List.{list_any, list_all}
 use Rattle.gw_text.specs.model.Names.{Key}
 use Rattle.gw_text.specs.model.Hostnames.{Host}

@@ -1,7 +1,7 @@
 -- The objects that are held after a list of changes. Source: list and watch of the Kubernetes API.
-use Rattle.std.specs.Prelude.{ℕ, ℤ, ◌+◌, ◌^◌, List, [], ◌++◌, length, codes, Bool, true, false, not, ◌&&◌, ◌||◌, ◌==◌, nat_eq, nat_lt, nat_le, fold, filter, is_some}
+use Rattle.std.specs.Prelude.{ℕ, ℤ, ◌+◌, ◌^◌, List, [], ◌++◌, length, codes, Bool, true, false, not, ◌&&◌, ◌||◌, nat_eq, nat_le, fold, filter, is_some}
 use Rattle.std.specs.List.{starts_with}
-use Rattle.gw_text.specs.model.Names.{Key, joined}
+use Rattle.gw_text.specs.model.Names.{joined}
 use Rattle.gw_text.specs.model.GatewayClasses.{GatewayClass}
 use Rattle.gw_text.specs.model.Gateways.{Gateway}
 use Rattle.gw_text.specs.model.Grants.{ReferenceGrant}
