@@ -1,3 +1,5 @@
+pub mod Parts
+pub mod Ports
 pub mod Printing
 pub mod Calendar
 pub mod Moments

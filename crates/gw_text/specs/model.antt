@@ -1,5 +1,6 @@
 -- What contracts speak of: objects, counts and lists as plain records, a file for each subject.
 pub mod Addresses
+pub mod Chains
 pub mod Conditions
 pub mod Doors
 pub mod Fields

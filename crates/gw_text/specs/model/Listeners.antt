@@ -1,11 +1,12 @@
 -- The conditions of a Gateway and of its listeners: two tables, in which the first row that holds counts. Source:
 -- GatewayStatus, ListenerStatus and their condition types in the Gateway API reference.
-use Rattle.std.specs.Prelude.{ℕ, List, [], ◌∷◌, codes, Bool, true, false, not, ◌&&◌, ◌||◌, nat_eq, bytes_eq, if◌then◌else◌, Option, Some, None, is_some, option_map, map}
+use Rattle.std.specs.Prelude.{ℕ, List, [], ◌∷◌, codes, Bool, true, false, not, ◌&&◌, ◌||◌, ◌==◌, bytes_eq, if◌then◌else◌, Option, Some, None, is_some, option_map, map}
 use Rattle.std.specs.List.{list_any, list_all}
 use Rattle.gw_text.specs.model.Names.{Key}
 use Rattle.gw_text.specs.model.Hostnames.{Host}
 use Rattle.gw_text.specs.model.Gateways.{RouteKind, Listener, Address, Gateway}
-use Rattle.gw_text.specs.model.Doors.{Socket, Door, first_door, has_port, address_text}
+use Rattle.gw_text.specs.model.Addresses.{Ipv4, Socket, ipv4_of}
+use Rattle.gw_text.specs.model.Doors.{Door, first_door, has_port}
 use Rattle.gw_text.specs.model.Conditions.{Condition, yes, no, is_accepted, is_conflicted, is_programmed, has_resolved_refs, accepted, address_not_assigned, address_not_usable, hostname_conflict, invalid, invalid_route_kinds, listeners_not_valid, no_conflicts, port_unavailable, programmed, protocol_conflict, resolved_refs, unsupported_address, unsupported_protocol}
 
 -- The protocol is HTTP, the one that is served. Source: ProtocolType.
@@ -32,11 +33,11 @@ same_hostname (Some a) None = false
 
 -- Two listeners on one port, of which one is HTTP and the other HTTPS, TLS or TCP.
 abbrev pub have_protocol_conflict : Listener → Listener → Bool
-have_protocol_conflict l o = is_other l o && nat_eq l.port o.port && ((is_http l && is_over_tcp o) || (is_over_tcp l && is_http o))
+have_protocol_conflict l o = is_other l o && l.port == o.port && ((is_http l && is_over_tcp o) || (is_over_tcp l && is_http o))
 
 -- Two HTTP listeners on one port with one hostname.
 abbrev pub have_hostname_conflict : Listener → Listener → Bool
-have_hostname_conflict l o = is_other l o && nat_eq l.port o.port && is_http l && is_http o && same_hostname l.hostname o.hostname
+have_hostname_conflict l o = is_other l o && l.port == o.port && is_http l && is_http o && same_hostname l.hostname o.hostname
 
 -- Conflicted, read off all listeners of the Gateway: no listener of a conflict is spared. Source: ListenerConditionConflicted.
 unfoldable pub conflicted_of : List Listener → Listener → Condition
@@ -87,14 +88,15 @@ given_value None = None
 given_value (Some []) = None
 given_value (Some (b ∷ value)) = Some (b ∷ value)
 
--- The value is the address of the door.
-abbrev pub is_address_of : Door → List ℕ → Bool
-is_address_of door value = bytes_eq value (address_text door.at)
+-- The address is the door's; what is no address of IPv4 isn't.
+abbrev pub is_address_of : Door → Option Ipv4 → Bool
+is_address_of door None = false
+is_address_of door (Some x) = x.a == door.at.a && x.b == door.at.b && x.c == door.at.c && x.d == door.at.d
 
 -- A value that is given is not the door's address.
 abbrev pub is_foreign : Door → Option (List ℕ) → Bool
 is_foreign door None = false
-is_foreign door (Some value) = not (is_address_of door value)
+is_foreign door (Some value) = not (is_address_of door (ipv4_of value))
 
 -- An IPAddress is asked for that is not the address of the Gateway's doors. Without a door nothing is compared.
 abbrev pub is_unusable : Option Door → Address → Bool

@@ -7,7 +7,8 @@ use Rattle.gw_text.specs.model.GatewayClasses.{GatewayClass}
 use Rattle.gw_text.specs.model.Gateways.{Listener, Gateway}
 use Rattle.gw_text.specs.model.Held.{held_of, objects_of}
 use Rattle.gw_text.specs.model.World.{World, class_key}
-use Rattle.gw_text.specs.model.Doors.{Socket, Door}
+use Rattle.gw_text.specs.model.Addresses.{Socket}
+use Rattle.gw_text.specs.model.Doors.{Door}
 use Rattle.gw_text.specs.model.Conditions.{Condition, yes, no, is_accepted, accepted, invalid_parameters}
 use Rattle.gw_text.specs.model.Listeners.{ListenerState, listener_states, gateway_state}
 
