@@ -1,5 +1,10 @@
 pub mod Lines
-pub mod RunText
+pub mod Outcomes
+pub mod Plain
+pub mod Readings
 pub mod Reports
+pub mod RunText
 pub mod Runs
+pub mod Starts
 pub mod Statuses
+pub mod Words

@@ -1,12 +1,45 @@
--- What stands once lines were answered.
-use Rattle.std.specs.Prelude.{◌≡◌, ℕ, ℤ, List, length, Option, filter, string_bytes}
-use Rattle.gw_text.specs.model.World.{nothing}
-use Rattle.gateward.specs.RunText.{Applies, refused_text, refusals_from, is_change}
+-- What the program keeps of the lines that it has answered.
+use Rattle.std.specs.Prelude.{◌≡◌, ℕ, ℤ, ◌+◌, List, [], ◌∷◌, length, Option, Result, Ok, filter, string_bytes}
+use Rattle.gw_link.specs.Moments.{TicksInTurn}
+use Rattle.gw_text.specs.model.World.{World, world_of, apply}
+use Rattle.gw_store.specs.Events.{Read, a_change, is_skipped, answer}
+use Rattle.gateward.specs.Outcomes.{Outcome, is_asked, outcome_after, outcome_of}
+use Rattle.gateward.specs.RunText.{refused_text}
 use Rattle.gateward.specs.declared.report.Report.{Report}
 
--- The report of these lines, the clock having told these moments before and after.
+-- The report tells of this outcome.
+pub record Tells (outcome : Outcome) (report : Report) : Type 0 where
+  pub world : report.world.world ≡ world_of outcome.changes
+  pub text : string_bytes report.text ≡ refused_text outcome.refused
+  pub refused : report.refused ≡ length outcome.refused
+  pub skipped : report.skipped ≡ outcome.skipped
+
+-- From one report to another by these lines, the clock being asked once before each that isn't blank.
+pub record Applies (first : ℕ) (lines : List (List ℕ)) (before after : Option (List ℤ)) (old new : Report) : Type 0 where
+  pub moments : List ℤ
+  pub asked : TicksInTurn before moments after
+  pub each : length moments ≡ length (filter is_asked lines)
+  pub tells : (outcome : Outcome) → Tells outcome old → Tells (outcome_after outcome first lines moments) new
+
+-- The report of all these lines.
 pub record IsReport (lines : List (List ℕ)) (before after : Option (List ℤ)) (report : Report) : Type 0 where
-  pub world : Applies lines before after nothing report.world
-  pub text : string_bytes report.text ≡ refused_text (refusals_from 1 lines)
-  pub changes : report.changes ≡ length (filter is_change lines)
-  pub refused : report.refused ≡ length (refusals_from 1 lines)
+  pub moments : List ℤ
+  pub asked : TicksInTurn before moments after
+  pub each : length moments ≡ length (filter is_asked lines)
+  pub tells : Tells (outcome_of lines moments) report
+
+-- The world after what was read, and how many lines more are skipped.
+abbrev pub world_with : World → ℤ → Read → World
+world_with w at (a_change event) = apply w (record { event = event; at = at })
+world_with w at is_skipped = w
+
+abbrev pub skips : Read → ℕ
+skips (a_change event) = 0
+skips is_skipped = 1
+
+-- A line that is taken: a change, or one that is skipped.
+pub record Takes (line : List ℕ) (at : ℤ) (old new : Report) : Type 0 where
+  pub read : Read
+  pub is : answer old.world.world line ≡ Ok read
+  pub world : new.world.world ≡ world_with old.world.world at read
+  pub skipped : new.skipped ≡ old.skipped + skips read

@@ -1,11 +1,12 @@
 -- The text of an input and whether a line of it is refused.
 use Rattle.std.specs.Prelude.{◌≡◌, ℕ, ℤ, List, Option, string_bytes}
+use Rattle.gateward.specs.Starts.{Setting}
 use Rattle.gateward.specs.RunText.{status_text, has_refused}
 use Rattle.gateward.specs.Runs.{IsAsked}
 use Rattle.gateward.specs.declared.status.StatusText.{StatusText}
 
-pub record IsStatusText (input : List ℕ) (told : Option (List ℤ)) (s : StatusText) : Type 0 where
+pub record IsStatusText (setting : Setting) (input : List ℕ) (told : Option (List ℤ)) (s : StatusText) : Type 0 where
   pub moments : List ℤ
   pub asked : IsAsked input told moments
-  pub text : string_bytes s.text ≡ status_text input moments
-  pub refused : s.refused ≡ has_refused input
+  pub text : string_bytes s.text ≡ status_text setting input moments
+  pub refused : s.refused ≡ has_refused input moments

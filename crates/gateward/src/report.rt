@@ -1,18 +1,20 @@
-ghost use Rattle.std.specs.Prelude.{◌≡◌, ◌+◌, ◌<◌, ◌≤◌, ◌^◌, [], ◌∷◌, ◌++◌, length, codes, filter, IfOk, OnOk, OnErr, string_bytes};
+ghost use Rattle.std.specs.Prelude.{◌≡◌, ◌+◌, ◌<◌, ◌≤◌, ◌^◌, [], ◌∷◌, ◌++◌, false, length, IfOk, IfErr, OnOk, OnErr, string_bytes};
 ghost use Rattle.gw_json.specs.Lines.{line_of};
-ghost use Rattle.gw_text.specs.model.World.{put_object};
+ghost use Rattle.gw_json.specs.Words.{Fails};
+ghost use Rattle.gw_text.specs.model.World.{is_full, apply};
 ghost use Rattle.gw_link.specs.declared.source.TheConstants.{MOST_INPUT};
+ghost use Rattle.gw_store.specs.Events.{a_change, answer, taken};
+ghost use Rattle.gw_store.specs.SeenEvents.{seen_event};
 ghost use Rattle.gateward.specs.Lines.{lines_of, lines_left};
-ghost use Rattle.gateward.specs.RunText.{Applies, refused_text, refusals_from, refused_data, is_change};
-ghost use Rattle.gateward.specs.Reports.{IsReport};
-ghost use Rattle.gw_store.specs.Form.{first_number};
-ghost use Rattle.gw_store.specs.Seen.{seen};
+ghost use Rattle.gateward.specs.Outcomes.{refused_by};
+ghost use Rattle.gateward.specs.RunText.{refused_data};
+ghost use Rattle.gateward.specs.Reports.{Applies, IsReport, Takes};
 
 use crate::lines::{first_line, is_blank};
 use crate::print::refused_value;
 use gw_json::{Refusal, push_line};
 use gw_link::{Clock, MOST_INPUT};
-use gw_store::{Object, World, read_object, refusal_number};
+use gw_store::{Event, Read, World, read_event};
 use gw_text::{NoMemory, Second};
 use std::alloc::Global;
 
@@ -22,8 +24,8 @@ pub struct Report {
     pub world: World,
     /// The text of the refused lines.
     pub text: String,
-    pub changes: u64,
     pub refused: u64,
+    pub skipped: u64,
 }
 
 /// Answers all lines of an input, in their order.
@@ -34,8 +36,8 @@ pub fn apply_lines<C: Clock>(alloc: Global, input: &[u8], clock: &mut C) -> Resu
     let mut report = Report {
         world: World::new(alloc),
         text: String::new(alloc),
-        changes: 0,
         refused: 0,
+        skipped: 0,
     };
     let mut rest = Some(input);
     let mut number = 1u64;
@@ -56,34 +58,52 @@ fn apply_line<C: Clock>(
     line: &[u8],
     clock: &mut C,
 ) -> Result<(), NoMemory>
-    requires changes { report.old.changes < 2 ^ 63 }
-    requires refused { report.old.refused < 2 ^ 63 }
-    ensures world { OnOk result (Applies (line.now ∷ []) (C.moments clock.old) (C.moments clock.new) report.old.world report.new.world) }
-    ensures kept { OnErr result (report.new.world ≡ report.old.world) }
-    ensures text { OnOk result (string_bytes report.new.text ≡ string_bytes report.old.text ++ refused_text (refusals_from number (line.now ∷ []))) }
-    ensures changes { OnOk result (report.new.changes ≡ report.old.changes + length (filter is_change (line.now ∷ []))) }
-    ensures refused { OnOk result (report.new.refused ≡ report.old.refused + length (refusals_from number (line.now ∷ []))) }
+    requires few { report.old.refused + report.old.skipped < number }
+    requires bound { number < 2 ^ 63 }
+    ensures applies { OnOk result (Applies number (line.now ∷ []) (C.moments clock.old) (C.moments clock.new) report.old report.new) }
+    ensures few { OnOk result (report.new.refused + report.new.skipped ≤ number) }
+    ensures kept { OnErr result (report.new.world.world ≡ report.old.world.world) }
 {
     if is_blank(line) {
         return Ok(());
     }
     let now = clock.now();
-    match read_object(alloc, line) {
-        Ok(object) => put(alloc, report, object, now),
+    match take_line(alloc, report, line, now) {
+        Ok(()) => Ok(()),
         Err(refusal) => refuse(alloc, report, number, &refusal),
     }
 }
 
-fn put(alloc: Global, report: &mut Report, object: Object, now: Second) -> Result<(), NoMemory>
-    requires { report.old.changes < 2 ^ 63 }
-    ensures ok { OnOk result (report.new.world ≡ put_object report.old.world (seen object) now) }
-    ensures kept { OnErr result (report.new.world ≡ report.old.world) }
-    ensures counted { OnOk result (report.new.changes ≡ report.old.changes + 1) }
+// Does what the line says, if it isn't refused.
+#[tactic(auto, unfolding(gw_store::specs::Events::answer))]
+fn take_line(alloc: Global, report: &mut Report, line: &[u8], now: Second) -> Result<(), Refusal>
+    requires { report.old.skipped < 2 ^ 63 }
+    ensures ok { OnOk result (Takes line.now now report.old report.new) }
+    ensures err { IfErr result (λ e. Fails e (answer report.old.world.world line.now)) }
+    ensures kept { OnErr result (report.new.world.world ≡ report.old.world.world) }
+    ensures skipped { OnErr result (report.new.skipped ≡ report.old.skipped) }
     ensures text { string_bytes report.new.text ≡ string_bytes report.old.text }
     ensures refused { report.new.refused ≡ report.old.refused }
 {
-    report.world.put(alloc, object, now)?;
-    report.changes += 1;
+    match read_event(alloc, line)? {
+        Read::Change(event) => change(&mut report.world, event, now),
+        Read::Skipped => {
+            report.skipped += 1;
+            Ok(())
+        }
+    }
+}
+
+// All that may fail comes before the world is changed.
+fn change(world: &mut World, event: Event, now: Second) -> Result<(), Refusal>
+    ensures room { OnOk result (is_full world.old.world (seen_event event) ≡ false) }
+    ensures ok { OnOk result (world.new.world ≡ apply world.old.world (record { event = seen_event event; at = now })) }
+    ensures err { IfErr result (λ e. Fails e (taken world.old.world (a_change (seen_event event)))) }
+    ensures kept { OnErr result (world.new.world ≡ world.old.world) }
+{
+    world.check(&event)?;
+    world.reserve()?;
+    world.put(event, now);
     Ok(())
 }
 
@@ -94,16 +114,16 @@ fn refuse(
     refusal: &Refusal,
 ) -> Result<(), NoMemory>
     requires { report.old.refused < 2 ^ 63 }
-    ensures text { OnOk result (string_bytes report.new.text ≡ string_bytes report.old.text ++ line_of (refused_data (record { line = number; refusal = first_number refusal.now }))) }
+    ensures text { OnOk result (string_bytes report.new.text ≡ string_bytes report.old.text ++ line_of (refused_data (refused_by number refusal.now))) }
     ensures counted { OnOk result (report.new.refused ≡ report.old.refused + 1) }
     ensures world { report.new.world ≡ report.old.world }
-    ensures changes { report.new.changes ≡ report.old.changes }
+    ensures skipped { report.new.skipped ≡ report.old.skipped }
     ensures named { OnOk result (¬ (refusal.now ≡ Refusal.NoMemory)) }
 {
     if matches!(refusal, Refusal::NoMemory) {
         return Err(NoMemory);
     }
-    let value = refused_value(alloc, number, refusal_number(refusal))?;
+    let value = refused_value(alloc, number, refusal)?;
     push_line(alloc, &mut report.text, &value)?;
     report.refused += 1;
     Ok(())

@@ -2,10 +2,13 @@ ghost use Rattle.std.specs.Prelude.{◌≡◌, ◌≤◌, length, IfOk, string_b
 ghost use Rattle.gw_link.specs.declared.source.TheConstants.{MOST_INPUT};
 ghost use Rattle.gateward.specs.Statuses.{IsStatusText};
 
-use crate::print::{push_gateways, summary_value};
+use crate::evaluate::statuses;
+use crate::print::summary_value;
 use crate::report::apply_lines;
+use crate::start::Setting;
 use gw_json::push_line;
 use gw_link::{Clock, MOST_INPUT};
+use gw_status::write_statuses;
 use gw_text::NoMemory;
 use std::alloc::Global;
 
@@ -17,15 +20,22 @@ pub struct StatusText {
     pub refused: bool,
 }
 
-/// The text of the objects that the lines of `input` put.
-#[tactic(auto, unfolding(crate::specs::RunText::text_of_lines))]
-pub fn status<C: Clock>(alloc: Global, input: &[u8], clock: &mut C) -> Result<StatusText, NoMemory>
+/// The text of the statuses of the objects that are held after the lines of `input`.
+#[tactic(auto, unfolding(crate::specs::RunText::outcome_text))]
+pub fn status<C: Clock>(
+    alloc: Global,
+    setting: &Setting,
+    input: &[u8],
+    clock: &mut C,
+) -> Result<StatusText, NoMemory>
     requires { length input.now ≤ MOST_INPUT }
-    ensures { IfOk result (IsStatusText input.now (C.moments clock.old)) }
+    ensures { IfOk result (IsStatusText setting.now input.now (C.moments clock.old)) }
 {
     let mut report = apply_lines(alloc, input, clock)?;
-    push_gateways(alloc, &report.world, &mut report.text)?;
-    let summary = summary_value(alloc, report.changes, report.refused)?;
+    let statuses = statuses(alloc, setting, &report.world)?;
+    let text = write_statuses(alloc, &statuses)?;
+    report.text.push_str(text.as_str())?;
+    let summary = summary_value(alloc, report.world.changes(), report.refused, report.skipped)?;
     push_line(alloc, &mut report.text, &summary)?;
     Ok(StatusText {
         text: report.text,

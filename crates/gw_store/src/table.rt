@@ -1,10 +1,12 @@
-ghost use Rattle.std.specs.Prelude.{◌≡◌, ℕ, ◌+◌, ◌-◌, ◌<◌, ◌≤◌, List, [], length, OnOk, OnErr, MatchResult, option_map, option_copied};
+ghost use Rattle.std.specs.Prelude.{◌≡◌, ℕ, ◌+◌, ◌-◌, ◌<◌, ◌≤◌, List, [], ◌++◌, length, codes, OnOk, MatchResult, is_some, option_copied};
+ghost use Rattle.std.specs.Ordering.{is_lt};
+ghost use Rattle.gw_text.specs.model.World.{is_in_namespace, in_namespace};
 ghost use Rattle.std.specs.List.Sorted.{IsSearchInRange};
 ghost use Rattle.gw_text.specs.model.Names.{joined};
-ghost use Rattle.gw_text.specs.model.Held.{put, remove, objects_of, object_of, key_order, IsInKeyOrder};
+ghost use Rattle.gw_text.specs.model.Held.{put, remove, objects_of, held_of, object_of, key_order, IsInKeyOrder};
 ghost use Rattle.gw_store.specs.Table.{StandsAt, IsMissingAt};
 
-use gw_text::{Key, NoMemory, Second};
+use gw_text::{Key, NoMemory, Second, Text};
 use std::alloc::Global;
 use std::cmp::Ordering;
 use std::marker::Model;
@@ -108,6 +110,13 @@ impl<T: Keyed + Drop> Table<T> {
         }
     }
 
+    /// Whether an object is held under `key`.
+    pub fn holds(&self, key: &Key) -> bool
+        ensures { result ≡ is_some (held_of T.key (joined key.now) self.now.held) }
+    {
+        self.get(key).is_some()
+    }
+
     /// The object that is held under `key`.
     pub fn get(&self, key: &Key) -> Option<&T>
         ensures { option_copied result ≡ object_of T.key (joined key.now) self.now.held }
@@ -117,6 +126,29 @@ impl<T: Keyed + Drop> Table<T> {
             Err(_) => None,
         }
     }
+
+    /// The objects of a namespace, in key order.
+    pub fn in_namespace(&self, namespace: &Text) -> &[T]
+        ensures { result.now ≡ in_namespace T.key namespace.now self.now.held }
+    {
+        let objects = self.objects.as_slice();
+        let first = objects.partition_point(|object| is_before(object, namespace));
+        let rest = &objects[first..];
+        let count = rest.partition_point(|object| is_in(object, namespace));
+        &rest[..count]
+    }
+}
+
+fn is_before<T: Keyed>(object: &T, namespace: &Text) -> bool
+    ensures { result ≡ is_lt (key_order (T.key object.now) (namespace.now ++ codes "/")) }
+{
+    object.key().is_before(namespace)
+}
+
+fn is_in<T: Keyed>(object: &T, namespace: &Text) -> bool
+    ensures { result ≡ is_in_namespace namespace.now (T.key object.now) }
+{
+    object.key().is_in(namespace)
 }
 
 // Where the object of `key` stands, or where it would stand.
