@@ -1,16 +1,17 @@
 -- The text of a socket names the socket.
-use Rattle.std.proofs.Common.{◌≡◌, ℕ, ◌+◌, ◌-◌, ◌*◌, ◌/◌, ◌%◌, ◌^◌, ◌<◌, ◌≤◌, ◌&&◌, ◌||◌, ◌==◌, Bool, true, false, not, List, [], ◌∷◌, ◌++◌, length, get_or, slice_index, inl, inr, refl, ap, sym, ◌∙◌, subst, add-one, append_assoc, arith, nat_le, codes, Option, Some}
+use Rattle.std.proofs.Common.{◌≡◌, ℕ, ◌+◌, ◌-◌, ◌*◌, ◌/◌, ◌%◌, ◌^◌, ◌<◌, ◌≤◌, ◌&&◌, ◌||◌, ◌==◌, Bool, true, false, not, List, [], ◌∷◌, ◌++◌, length, get_or, inl, inr, refl, ap, ◌∙◌, append_assoc, arith, nat_le, codes, Some}
 use Rattle.std.specs.Char.{is_ascii_digit}
 use Rattle.std.specs.Fmt.{decimal}
 use Rattle.std.specs.List.{list_all, slice_split, position_or_len, before_first, after_first}
 use Rattle.std.specs.Str.Parse.{digits_value}
-use Rattle.std.proofs.Math.Seq.{take-append_seam, drop-append_seam, drop-append-add}
+use Rattle.std.proofs.Math.Seq.{take-append_seam, drop-append-add}
+use Rattle.std.proofs.lemmas.Bool.{cases_lt}
 use Rattle.std.proofs.lemmas.Bool.Decides.{nat_tests}
 use Rattle.std.proofs.lemmas.Fmt.{decimal_digit, decimal_step, digits_decimal, digits_value-decimal, first_decimal}
 use Rattle.std.proofs.lemmas.List.Folds.{list_all-append}
 use Rattle.std.proofs.lemmas.List.Splits.{slice_split_at, slice_split_none}
 use Rattle.std.proofs.lemmas.List.Sums.{AllPass-from_list_all}
-use Rattle.gw_text.specs.model.Addresses.{Socket, Ipv4, is_leading, octet_of, written_in, ipv4_of, is_decimal, is_colon, port_of, socket_of, address_text, socket_text}
+use Rattle.gw_text.specs.model.Addresses.{Socket, is_leading, octet_of, written_in, ipv4_of, is_decimal, is_colon, port_of, socket_of, address_text, socket_text}
 use Rattle.gw_text.specs.model.Forms.{is_dot}
 use Rattle.gw_text.proofs.Ports.{digits}
 
@@ -28,7 +29,7 @@ not_true false e = refl
 
 digits_lack : (p : ℕ → Bool) → ((b : ℕ) → is_ascii_digit b ≡ true → p b ≡ false) → (ds : List ℕ) → list_all is_ascii_digit ds ≡ true → lacks p ds ≡ true
 digits_lack p other [] h = refl
-digits_lack p other (b ∷ ds) h = let k = both _ _ h in rw (other b k.0, digits_lack p other ds k.1)
+digits_lack p other (b ∷ ds) h = let k = both (is_ascii_digit b) (list_all is_ascii_digit ds) h in rw (other b k.0, digits_lack p other ds k.1)
 
 decimal_lacks : (p : ℕ → Bool) → ((b : ℕ) → is_ascii_digit b ≡ true → p b ≡ false) → (n : ℕ) → n < 2 ^ 64 → lacks p (decimal n) ≡ true
 decimal_lacks p other n h = digits_lack p other _ (digits_decimal digits n h)
@@ -43,8 +44,9 @@ digit_no_colon b h = grind (arith, nat_tests)
 position-separator : (p : ℕ → Bool) (xs : List ℕ) (y : ℕ) (ys : List ℕ) → lacks p xs ≡ true → p y ≡ true → position_or_len p (xs ++ y ∷ ys) ≡ length xs
 position-separator p [] y ys h e = rw e
 position-separator p (x ∷ xs) y ys h e =
-    let k = both _ _ h in
-    rw (not_true _ k.0, position-separator p xs y ys k.1 e)
+    let k = both (not (p x)) (lacks p xs) h in
+    let passed : p x ≡ false = not_true (p x) k.0 in
+    rw (passed, position-separator p xs y ys k.1 e) (omega arith)
 
 before-separator : (p : ℕ → Bool) (xs : List ℕ) (y : ℕ) (ys : List ℕ) → lacks p xs ≡ true → p y ≡ true → before_first p (xs ++ y ∷ ys) ≡ xs
 before-separator p xs y ys h e = rw (position-separator p xs y ys h e) (take-append_seam xs (y ∷ ys))
@@ -99,7 +101,7 @@ or_true false = refl
 is_decimal-above : (t : List ℕ) → list_all is_ascii_digit t ≡ true → 48 < get_or t 0 0 → is_decimal t ≡ true
 is_decimal-above [] all above = absurd (omega (arith, above))
 is_decimal-above (b ∷ t) all above =
-    let k = both _ _ all in
+    let k = both (is_ascii_digit b) (list_all is_ascii_digit t) all in
     let other : (b == 48) ≡ false = grind (arith, nat_tests, above) in
     rw (k.0, k.1, other) (or_true _)
 
@@ -107,7 +109,7 @@ is_decimal-decimal : (n : ℕ) → n < 2 ^ 16 → is_decimal (decimal n) ≡ tru
 is_decimal-decimal n h =
     elim (cases_lt n 10) [
       | inl one ↦ rw (decimal_digit n one, is_digit n one)
-      | inr more ↦ is_decimal-above _ (digits_decimal digits n (omega arith)) (first_decimal n (omega arith) (omega arith))
+      | inr more ↦ is_decimal-above (decimal n) (digits_decimal digits n (omega arith)) (first_decimal n (omega arith) (omega arith))
     ]
 
 port_of-decimal : (n : ℕ) → n < 2 ^ 16 → port_of (decimal n) ≡ Some n
@@ -135,11 +137,11 @@ ipv4_of-address_text : (s : Socket) → IsInRange s → ipv4_of (address_text s)
 unfolding ipv4_of
 ipv4_of-address_text s h =
     let parts : slice_split is_dot (address_text s) ≡ decimal s.a ∷ decimal s.b ∷ decimal s.c ∷ decimal s.d ∷ [] =
-        ap (slice_split is_dot) (nested s)
-        ∙ split-separator is_dot _ 46 _ (octet_lacks is_dot digit_no_dot s.a h.a) refl
-        ∙ ap (λ (ps : List (List ℕ)). decimal s.a ∷ ps) (split-separator is_dot _ 46 _ (octet_lacks is_dot digit_no_dot s.b h.b) refl)
-        ∙ ap (λ (ps : List (List ℕ)). decimal s.a ∷ decimal s.b ∷ ps) (split-separator is_dot _ 46 _ (octet_lacks is_dot digit_no_dot s.c h.c) refl)
-        ∙ ap (λ (ps : List (List ℕ)). decimal s.a ∷ decimal s.b ∷ decimal s.c ∷ ps) (split-none is_dot _ (octet_lacks is_dot digit_no_dot s.d h.d)) in
+    ap (slice_split is_dot) (nested s)
+    ∙ split-separator is_dot _ 46 _ (octet_lacks is_dot digit_no_dot s.a h.a) refl
+    ∙ ap (λ (ps : List (List ℕ)). decimal s.a ∷ ps) (split-separator is_dot _ 46 _ (octet_lacks is_dot digit_no_dot s.b h.b) refl)
+    ∙ ap (λ (ps : List (List ℕ)). decimal s.a ∷ decimal s.b ∷ ps) (split-separator is_dot _ 46 _ (octet_lacks is_dot digit_no_dot s.c h.c) refl)
+    ∙ ap (λ (ps : List (List ℕ)). decimal s.a ∷ decimal s.b ∷ decimal s.c ∷ ps) (split-none is_dot _ (octet_lacks is_dot digit_no_dot s.d h.d)) in
     ap written_in parts ∙ rw (octet_of-decimal s.a h.a, octet_of-decimal s.b h.b, octet_of-decimal s.c h.c, octet_of-decimal s.d h.d)
 
 lacks-append : (p : ℕ → Bool) (xs ys : List ℕ) → lacks p xs ≡ true → lacks p ys ≡ true → lacks p (xs ++ ys) ≡ true
@@ -148,12 +150,17 @@ lacks-append p xs ys h k = rw (list_all-append (λ b. not (p b)) xs ys, h, k)
 address_lacks : (s : Socket) → IsInRange s → lacks is_colon (address_text s) ≡ true
 address_lacks s h =
     let k = octet_lacks is_colon digit_no_colon in
-    rw (nested s) (lacks-append _ _ _ (k s.a h.a) (lacks-append _ _ _ (k s.b h.b) (lacks-append _ _ _ (k s.c h.c) (k s.d h.d))))
+    let d = decimal s.d in
+    let cd = decimal s.c ++ 46 ∷ d in
+    let bcd = decimal s.b ++ 46 ∷ cd in
+    let two : lacks is_colon cd ≡ true = lacks-append is_colon (decimal s.c) (46 ∷ d) (k s.c h.c) (k s.d h.d) in
+    let three : lacks is_colon bcd ≡ true = lacks-append is_colon (decimal s.b) (46 ∷ cd) (k s.b h.b) two in
+    rw (nested s) (lacks-append is_colon (decimal s.a) (46 ∷ bcd) (k s.a h.a) three)
 
 pub socket_of-socket_text : (s : Socket) → IsInRange s → socket_of (socket_text s) ≡ Some s
 unfolding socket_of
 socket_of-socket_text s h =
     let cut : socket_text s ≡ address_text s ++ 58 ∷ decimal s.port = append_assoc (address_text s) (codes ":") (decimal s.port) in
-    let before : before_first is_colon (socket_text s) ≡ address_text s = ap (before_first is_colon) cut ∙ before-separator is_colon _ 58 _ (address_lacks s h) refl in
-    let after : after_first is_colon (socket_text s) ≡ decimal s.port = ap (after_first is_colon) cut ∙ after-separator is_colon _ 58 _ (address_lacks s h) refl in
+    let before : before_first is_colon (socket_text s) ≡ address_text s = ap (before_first is_colon) cut ∙ before-separator is_colon (address_text s) 58 (decimal s.port) (address_lacks s h) refl in
+    let after : after_first is_colon (socket_text s) ≡ decimal s.port = ap (after_first is_colon) cut ∙ after-separator is_colon (address_text s) 58 (decimal s.port) (address_lacks s h) refl in
     rw (before, after, port_of-decimal s.port h.port, ipv4_of-address_text s h)
