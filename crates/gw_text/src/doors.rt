@@ -107,7 +107,9 @@ impl Doors {
     pub fn has_port(&self, gateway: &Key, port: u16) -> bool
         ensures { result ≡ model.has_port gateway.now port self.now }
     {
-        self.doors.iter().any(|door| door.gateway.is(gateway) && door.port == port)
+        self.doors
+            .iter()
+            .any(|door| door.gateway.is(gateway) && door.port == port)
     }
 }
 

@@ -1,4 +1,4 @@
-ghost use Rattle.std.specs.Prelude.{◌≡◌, ◌==◌, ◌<◌, IfOk, slice_index};
+ghost use Rattle.std.specs.Prelude.{◌≡◌, ◌==◌, ◌<◌, IfOk, Some, slice_index};
 ghost use Rattle.std.specs.Char.{is_ascii_digit};
 ghost use Rattle.std.specs.List.{list_all, before_first, after_first};
 ghost use Rattle.gw_text.specs.Parsing.{Parses};
@@ -42,8 +42,10 @@ impl Socket {
     /// The address, `:` and the port.
     pub fn print(&self, alloc: Global) -> Result<Text, AllocError>
         ensures text { IfOk result (λ text. text ≡ addresses.socket_text self.now) }
+        ensures again { IfOk result (λ text. addresses.socket_of text ≡ Some self.now) }
     {
-        let text = format!(in alloc; "{}.{}.{}.{}:{}", self.a, self.b, self.c, self.d, self.port)?;
+        let Socket { a, b, c, d, port } = *self;
+        let text = format!(in alloc; "{a}.{b}.{c}.{d}:{port}")?;
         Ok(Text::from_vec(text.into_bytes()))
     }
 
@@ -51,7 +53,8 @@ impl Socket {
     pub fn address(&self, alloc: Global) -> Result<Text, AllocError>
         ensures { IfOk result (λ text. text ≡ addresses.address_text self.now) }
     {
-        let text = format!(in alloc; "{}.{}.{}.{}", self.a, self.b, self.c, self.d)?;
+        let Socket { a, b, c, d, .. } = *self;
+        let text = format!(in alloc; "{a}.{b}.{c}.{d}")?;
         Ok(Text::from_vec(text.into_bytes()))
     }
 

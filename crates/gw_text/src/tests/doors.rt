@@ -1,6 +1,4 @@
-use crate::{
-    Door, DoorFault, Doors, Host, Key, Meta, Second, Socket, Text, TextFault, parse_ipv4,
-};
+use crate::{Door, DoorFault, Doors, Host, Key, Meta, Second, Socket, Text, TextFault, parse_ipv4};
 use std::alloc::Global;
 use std::test::Fail;
 
@@ -84,7 +82,10 @@ fn doors_are_parsed(rt: HostRuntime) -> Result<(), Fail> {
     assert_eq!(rt; door.gateway.namespace.as_str(), Some("shop"));
     assert_eq!(rt; door.gateway.name.as_str(), Some("web.v1"));
     assert_eq!(rt; door.port, 443);
-    assert_eq!(rt; [door.at.a, door.at.b, door.at.c, door.at.d], [127, 0, 0, 1]);
+    assert_eq!(rt;
+        [door.at.a, door.at.b, door.at.c, door.at.d],
+        [127, 0, 0, 1]
+    );
     assert_eq!(rt; door.at.port, 0);
     Ok(())
 }

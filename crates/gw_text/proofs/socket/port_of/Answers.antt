@@ -1,4 +1,4 @@
-use Rattle.std.proofs.Common.{sym, ◌∙◌, rules}
+use Rattle.std.proofs.Common.{◌∙◌, rules}
 use Rattle.gw_text.proofs.Ports.{port_parsed}
 use Rattle.gw_text.proofs.socket.port_of.Goals as goal
 
