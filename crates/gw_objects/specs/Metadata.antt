@@ -7,7 +7,8 @@ use Rattle.gw_json.specs.Words.{◌>>=◌, or}
 use Rattle.gw_json.specs.Fields.{Place, text_of, number_of}
 use Rattle.gw_text.specs.model.Meta.{Meta}
 use Rattle.gw_text.specs.model.Moments.{second_of}
-use Rattle.gw_objects.specs.Forms.{needed, given, defaulted, any_length, place_of_object, name_of, namespace_name_of}
+use Rattle.gw_json.specs.Rows.{needed, given, defaulted, any_length, place_of_object}
+use Rattle.gw_objects.specs.Forms.{name_of, namespace_name_of}
 
 -- The kinds whose objects stand in a namespace.
 unfoldable pub is_namespaced : List ℕ → Bool

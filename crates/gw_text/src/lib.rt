@@ -2,6 +2,7 @@
 // lists that the contracts of every crate above speak of.
 #![tactic(auto)]
 
+mod boxed;
 mod field;
 mod host;
 mod key;
@@ -12,6 +13,7 @@ mod second;
 mod tests;
 mod text;
 
+pub use boxed::Boxed;
 pub use field::Field;
 pub use host::Host;
 pub use key::Key;
