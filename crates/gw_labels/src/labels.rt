@@ -22,6 +22,7 @@ impl Model for Labels {
 }
 
 impl Labels {
+    /// No labels.
     pub fn new(alloc: Global) -> Labels
         ensures { result ≡ [] }
     {
@@ -31,8 +32,8 @@ impl Labels {
         }
     }
 
-    #[tactic(auto, using(crate::proofs::Entries::put_is, crate::proofs::Entries::labels_ascend))]
     /// Gives the key this value. A value that it has already is replaced.
+    #[tactic(auto, using(crate::proofs::Entries::put_is, crate::proofs::Entries::labels_ascend))]
     pub fn put(&mut self, key: &str, value: &str) -> Result<(), AllocError>
         ensures ok { OnOk result (self.new ≡ put key.now value.now self.old) }
         ensures err { OnErr result (self.new ≡ self.old) }
@@ -44,6 +45,7 @@ impl Labels {
         Ok(())
     }
 
+    /// The value of the key, if the object has that label.
     pub fn get(&self, key: &str) -> Option<&str>
         ensures { option_map (λ value. value.now) result ≡ label_of key.now self.now }
     {

@@ -10,9 +10,13 @@ use std::marker::Model;
 /// What a requirement asks of its key.
 #[derive(Clone, Copy, Debug, PartialEq, Eq)]
 pub enum Op {
+    /// The key is there, with one of the values.
     In,
+    /// The key is absent, or has none of the values.
     NotIn,
+    /// The key is there.
     Exists,
+    /// The key is absent.
     DoesNotExist,
 }
 
@@ -78,6 +82,7 @@ impl Model for Selector {
 }
 
 impl Selector {
+    /// Asks nothing, so that it accepts all labels.
     pub fn new(alloc: Global) -> Selector
         ensures { result ≡ [] }
     {

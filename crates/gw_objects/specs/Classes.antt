@@ -5,7 +5,8 @@ use Rattle.gw_json.specs.Words.{◌>>=◌}
 use Rattle.gw_json.specs.Fields.{Place}
 use Rattle.gw_text.specs.model.Meta.{Meta}
 use Rattle.gw_text.specs.model.GatewayClasses.{GatewayClass}
-use Rattle.gw_objects.specs.Forms.{needed, is_given, spec_of, word_of}
+use Rattle.gw_json.specs.Rows.{needed, is_given, spec_of}
+use Rattle.gw_objects.specs.Forms.{word_of}
 
 -- spec.controllerName must be there, a word.
 unfoldable pub controller_name_of : Place → Result (List ℕ) Refusal

@@ -8,7 +8,8 @@ use Rattle.gw_json.specs.Fields.{Place, items_of, text_of}
 use Rattle.gw_text.specs.model.Meta.{Meta}
 use Rattle.gw_text.specs.model.Selectors.{Requirement}
 use Rattle.gw_text.specs.model.Gateways.{FromNamespaces, from_all, from_same, from_selector, RouteKind, AllowedRoutes, Listener, Address, Gateway}
-use Rattle.gw_objects.specs.Forms.{needed, given, defaulted, listed, any_length, spec_of, word_of, name_of, hostname_of, port_of}
+use Rattle.gw_json.specs.Rows.{needed, given, defaulted, listed, any_length, spec_of, port_of}
+use Rattle.gw_objects.specs.Forms.{word_of, name_of, hostname_of}
 use Rattle.gw_objects.specs.Selectors.{selector_of}
 
 -- The namespaces of that name: FromNamespaces.

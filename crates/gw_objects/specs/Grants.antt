@@ -5,7 +5,8 @@ use Rattle.gw_json.specs.Words.{◌>>=◌, each}
 use Rattle.gw_json.specs.Fields.{Place, items_of}
 use Rattle.gw_text.specs.model.Meta.{Meta}
 use Rattle.gw_text.specs.model.Grants.{GrantFrom, GrantTo, ReferenceGrant}
-use Rattle.gw_objects.specs.Forms.{needed, given, spec_of, word_of, name_of, namespace_name_of}
+use Rattle.gw_json.specs.Rows.{needed, given, spec_of}
+use Rattle.gw_objects.specs.Forms.{word_of, name_of, namespace_name_of}
 
 -- An item of spec.from: ReferenceGrantFrom.
 unfoldable pub grant_from_of : Place → Result GrantFrom Refusal

@@ -4,7 +4,8 @@ use Rattle.gw_json.specs.declared.refusal.Refusal.{Refusal}
 use Rattle.gw_json.specs.Words.{◌>>=◌, each}
 use Rattle.gw_json.specs.Fields.{Place, members_of}
 use Rattle.gw_labels.specs.Labels.{put}
-use Rattle.gw_objects.specs.Forms.{defaulted, word_of}
+use Rattle.gw_json.specs.Rows.{defaulted}
+use Rattle.gw_objects.specs.Forms.{word_of}
 use Rattle.gw_objects.specs.Metadata.{metadata_of}
 
 -- A member of an object of words.

@@ -6,8 +6,10 @@ use Rattle.gw_json.specs.declared.refusal.Refusal.TheVariants.{BadValue}
 use Rattle.gw_json.specs.Words.{◌>>=◌, or}
 use Rattle.gw_json.specs.Fields.{Place, text_of, number_of}
 use Rattle.gw_text.specs.model.Meta.{Meta}
+use Rattle.gw_text.specs.model.Names.{Key}
 use Rattle.gw_text.specs.model.Moments.{second_of}
-use Rattle.gw_objects.specs.Forms.{needed, given, defaulted, any_length, place_of_object, name_of, namespace_name_of}
+use Rattle.gw_json.specs.Rows.{needed, given, defaulted, any_length, place_of_object}
+use Rattle.gw_objects.specs.Forms.{name_of, namespace_name_of}
 
 -- The kinds whose objects stand in a namespace.
 unfoldable pub is_namespaced : List ℕ → Bool
@@ -36,12 +38,24 @@ created_of metadata = given moment_of (codes "creationTimestamp") metadata
 unfoldable pub generation_of : Place → Result ℕ Refusal
 generation_of metadata = defaulted 1 (number_of 0 9223372036854775807) (codes "generation") metadata
 
+-- The name and then the namespace, which are the key.
+unfoldable pub key_in : List ℕ → Place → Result Key Refusal
+key_in kind metadata = do
+  name ← needed name_of (codes "name") metadata
+  namespace ← namespace_in kind metadata
+  Ok (record { namespace = namespace; name = name })
+
+-- The key alone, of an object of which nothing else is read.
+unfoldable pub key_of : List ℕ → Place → Result Key Refusal
+key_of kind at = do
+  metadata ← metadata_of at
+  key_in kind metadata
+
 -- The fields of the metadata, in the order in which they are read.
 unfoldable pub meta_of : List ℕ → Place → Result Meta Refusal
 meta_of kind at = do
   metadata ← metadata_of at
-  name ← needed name_of (codes "name") metadata
-  namespace ← namespace_in kind metadata
+  key ← key_in kind metadata
   created ← created_of metadata
   generation ← generation_of metadata
-  Ok (record { key = record { namespace = namespace; name = name }; created = created; generation = generation })
+  Ok (record { key = key; created = created; generation = generation })

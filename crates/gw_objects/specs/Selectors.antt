@@ -7,7 +7,8 @@ use Rattle.gw_json.specs.Words.{◌>>=◌, or, each}
 use Rattle.gw_json.specs.Fields.{Place, text_of, members_of}
 use Rattle.gw_labels.specs.Labels.{put}
 use Rattle.gw_text.specs.model.Selectors.{Op, is_in, is_not_in, key_exists, key_does_not_exist, Requirement}
-use Rattle.gw_objects.specs.Forms.{needed, defaulted, listed, any_length, word_of}
+use Rattle.gw_json.specs.Rows.{needed, defaulted, listed, any_length}
+use Rattle.gw_objects.specs.Forms.{word_of}
 
 -- A member of matchLabels asks for its key with its one value.
 unfoldable pub asked_of : List ℕ × Place → Result Requirement Refusal

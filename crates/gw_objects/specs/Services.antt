@@ -6,7 +6,8 @@ use Rattle.gw_json.specs.Words.{◌>>=◌, each}
 use Rattle.gw_json.specs.Fields.{Place}
 use Rattle.gw_text.specs.model.Meta.{Meta}
 use Rattle.gw_text.specs.model.Services.{ServicePort, Service}
-use Rattle.gw_objects.specs.Forms.{needed, given, defaulted, listed, spec_of, word_of, port_of}
+use Rattle.gw_json.specs.Rows.{needed, given, defaulted, listed, spec_of, port_of}
+use Rattle.gw_objects.specs.Forms.{word_of}
 
 -- Whether the type is ExternalName; of the others nothing is kept.
 unfoldable pub external_name_of : Place → Result Bool Refusal

@@ -7,7 +7,8 @@ use Rattle.gw_json.specs.Fields.{Place, items_of, text_of, truth_of}
 use Rattle.gw_text.specs.model.Addresses.{Ipv4, ipv4_of}
 use Rattle.gw_text.specs.model.Meta.{Meta}
 use Rattle.gw_text.specs.model.Slices.{EndpointPort, Endpoint, EndpointSlice}
-use Rattle.gw_objects.specs.Forms.{needed, given, defaulted, listed, any_length, word_of, port_of}
+use Rattle.gw_json.specs.Rows.{needed, given, defaulted, listed, any_length, port_of}
+use Rattle.gw_objects.specs.Forms.{word_of}
 use Rattle.gw_objects.specs.Labels.{labels_of}
 
 -- The fields of an item of ports, in the order in which they are read: EndpointPort.

@@ -2,28 +2,31 @@ ghost use Rattle.gw_json.specs.Words.{Gives};
 ghost use Rattle.gw_json.specs.Fields.{place_of};
 ghost use Rattle.gw_objects.specs.Classes as classes;
 
-use crate::fields::{has, need_word, spec};
+use crate::fields::need_word;
 use gw_json::{Cursor, Refusal};
-use gw_text::{Meta, Text};
+use gw_text::{Boxed, Meta, Text};
 use std::alloc::Global;
 use std::marker::Model;
 
-/// A GatewayClass.
+/// The fields of a GatewayClass.
 #[derive(Drop)]
-pub struct GatewayClass {
+pub struct GatewayClassFields {
     pub meta: Meta,
     /// The controller that manages Gateways of this class.
     pub controller_name: Text,
     pub parameters_ref: bool,
 }
 
-impl Model for GatewayClass {
+impl Model for GatewayClassFields {
     ghost use Rattle.gw_text.specs.model.GatewayClasses.{GatewayClass as Plain};
 
     ghost Value = { Plain };
 
     ghost view = { λ c. record { meta = c.meta; controller_name = c.controller_name; parameters_ref = c.parameters_ref } };
 }
+
+/// A GatewayClass, one pointer wide.
+pub type GatewayClass = Boxed<GatewayClassFields>;
 
 #[tactic(auto, unfolding(crate::specs::Classes::controller_name_of))]
 fn controller_name(alloc: Global, spec: &Cursor<'_>) -> Result<Text, Refusal>
@@ -36,7 +39,7 @@ fn controller_name(alloc: Global, spec: &Cursor<'_>) -> Result<Text, Refusal>
 fn parameters_ref(alloc: Global, spec: &Cursor<'_>) -> Result<bool, Refusal>
     ensures { Gives (λ there. there) result (classes.parameters_ref_of (place_of spec.now)) }
 {
-    has(alloc, "parametersRef", spec)
+    spec.is_given(alloc, "parametersRef")
 }
 
 /// The GatewayClass of this metadata. `at` is the whole object.
@@ -44,12 +47,15 @@ fn parameters_ref(alloc: Global, spec: &Cursor<'_>) -> Result<bool, Refusal>
 pub fn read_class(alloc: Global, meta: Meta, at: &Cursor<'_>) -> Result<GatewayClass, Refusal>
     ensures { Gives (λ class. class) result (classes.class_of meta (place_of at.now)) }
 {
-    let spec = spec(alloc, at)?;
+    let spec = at.spec(alloc)?;
     let controller_name = controller_name(alloc, &spec)?;
     let parameters_ref = parameters_ref(alloc, &spec)?;
-    Ok(GatewayClass {
-        meta,
-        controller_name,
-        parameters_ref,
-    })
+    Ok(Boxed::new(
+        alloc,
+        GatewayClassFields {
+            meta,
+            controller_name,
+            parameters_ref,
+        },
+    )?)
 }

@@ -3,13 +3,10 @@ ghost use Rattle.gw_json.specs.Words.{Gives};
 ghost use Rattle.gw_json.specs.Fields.{place_of};
 ghost use Rattle.gw_objects.specs.Gateways as gateways;
 
-use crate::fields::{
-    list, name, need_name, need_port, need_word, some_hostname, some_word, spec, word_or,
-};
-use crate::items::{Item, each_item};
+use crate::fields::{name, need_name, need_word, some_hostname, some_word, word_or};
 use crate::routes::{AllowedRoutes, read_routes};
-use gw_json::{Cursor, Refusal};
-use gw_text::{Host, Meta, Text};
+use gw_json::{Cursor, Item, Refusal, each_item};
+use gw_text::{Boxed, Host, Meta, Text};
 use std::alloc::Global;
 use std::marker::Model;
 
@@ -59,9 +56,9 @@ impl Item for Address {
     }
 }
 
-/// A Gateway.
+/// The fields of a Gateway.
 #[derive(Drop)]
-pub struct Gateway {
+pub struct GatewayFields {
     pub meta: Meta,
     /// The name of its GatewayClass.
     pub gateway_class_name: Text,
@@ -70,13 +67,16 @@ pub struct Gateway {
     pub addresses: Vec<Address>,
 }
 
-impl Model for Gateway {
+impl Model for GatewayFields {
     ghost use Rattle.gw_text.specs.model.Gateways.{Gateway as Plain};
 
     ghost Value = { Plain };
 
     ghost view = { λ g. record { meta = g.meta; gateway_class_name = g.gateway_class_name; listeners = g.listeners.items; addresses = g.addresses.items } };
 }
+
+/// A Gateway, one pointer wide.
+pub type Gateway = Boxed<GatewayFields>;
 
 #[tactic(auto, unfolding(crate::specs::Gateways::is_among))]
 fn is_among(name: &[u8], listeners: &[Listener]) -> bool
@@ -96,7 +96,7 @@ fn own_name(alloc: Global, earlier: &[Listener], at: &Cursor<'_>) -> Result<Text
     Ok(name)
 }
 
-#[tactic(auto, unfolding(crate::specs::Gateways::name_field_of, crate::specs::Forms::needed))]
+#[tactic(auto, unfolding(crate::specs::Gateways::name_field_of, gw_json::specs::Rows::needed))]
 fn name_field(alloc: Global, earlier: &[Listener], at: &Cursor<'_>) -> Result<Text, Refusal>
     ensures { Gives (λ name. name) result (gateways.name_field_of earlier.now (place_of at.now)) }
 {
@@ -109,7 +109,7 @@ fn read_listener(alloc: Global, earlier: &[Listener], at: &Cursor<'_>) -> Result
 {
     let name = name_field(alloc, earlier, at)?;
     let hostname = some_hostname(alloc, at)?;
-    let port = need_port(alloc, at)?;
+    let port = at.need_port(alloc, "port")?;
     let protocol = need_word(alloc, "protocol", at)?;
     let allowed_routes = read_routes(alloc, at)?;
     Ok(Listener {
@@ -143,7 +143,7 @@ fn listener_places<'v>(alloc: Global, at: &Cursor<'v>) -> Result<Vec<Cursor<'v>>
     Ok(places)
 }
 
-#[tactic(auto, unfolding(crate::specs::Gateways::listeners_of, crate::specs::Forms::needed))]
+#[tactic(auto, unfolding(crate::specs::Gateways::listeners_of, gw_json::specs::Rows::needed))]
 fn listeners(alloc: Global, spec: &Cursor<'_>) -> Result<Vec<Listener>, Refusal>
     ensures { Gives (λ v. v.items) result (gateways.listeners_of (place_of spec.now)) }
 {
@@ -155,7 +155,7 @@ fn listeners(alloc: Global, spec: &Cursor<'_>) -> Result<Vec<Listener>, Refusal>
 fn addresses(alloc: Global, spec: &Cursor<'_>) -> Result<Vec<Address>, Refusal>
     ensures { Gives (λ v. v.items) result (gateways.addresses_of (place_of spec.now)) }
 {
-    let places = list(alloc, 16, "addresses", spec)?;
+    let places = spec.list(alloc, "addresses", 16)?;
     each_item(alloc, places.as_slice())
 }
 
@@ -171,14 +171,17 @@ fn class_name(alloc: Global, spec: &Cursor<'_>) -> Result<Text, Refusal>
 pub fn read_gateway(alloc: Global, meta: Meta, at: &Cursor<'_>) -> Result<Gateway, Refusal>
     ensures { Gives (λ gateway. gateway) result (gateways.gateway_of meta (place_of at.now)) }
 {
-    let spec = spec(alloc, at)?;
+    let spec = at.spec(alloc)?;
     let gateway_class_name = class_name(alloc, &spec)?;
     let listeners = listeners(alloc, &spec)?;
     let addresses = addresses(alloc, &spec)?;
-    Ok(Gateway {
-        meta,
-        gateway_class_name,
-        listeners,
-        addresses,
-    })
+    Ok(Boxed::new(
+        alloc,
+        GatewayFields {
+            meta,
+            gateway_class_name,
+            listeners,
+            addresses,
+        },
+    )?)
 }

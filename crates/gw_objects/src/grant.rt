@@ -2,10 +2,9 @@ ghost use Rattle.gw_json.specs.Words.{Gives};
 ghost use Rattle.gw_json.specs.Fields.{place_of};
 ghost use Rattle.gw_objects.specs.Grants as grants;
 
-use crate::fields::{need_list, need_namespace_name, need_word, some_name, spec};
-use crate::items::{Item, each_item};
-use gw_json::{Cursor, Refusal};
-use gw_text::{Meta, Text};
+use crate::fields::{need_namespace_name, need_word, some_name};
+use gw_json::{Cursor, Item, Refusal, each_item};
+use gw_text::{Boxed, Meta, Text};
 use std::alloc::Global;
 use std::marker::Model;
 
@@ -69,15 +68,15 @@ impl Item for GrantTo {
     }
 }
 
-/// A ReferenceGrant.
+/// The fields of a ReferenceGrant.
 #[derive(Drop)]
-pub struct ReferenceGrant {
+pub struct ReferenceGrantFields {
     pub meta: Meta,
     pub from: Vec<GrantFrom>,
     pub to: Vec<GrantTo>,
 }
 
-impl Model for ReferenceGrant {
+impl Model for ReferenceGrantFields {
     ghost use Rattle.gw_text.specs.model.Grants.{ReferenceGrant as Plain};
 
     ghost Value = { Plain };
@@ -85,11 +84,14 @@ impl Model for ReferenceGrant {
     ghost view = { λ g. record { meta = g.meta; from = g.from.items; to = g.to.items } };
 }
 
+/// A ReferenceGrant, one pointer wide.
+pub type ReferenceGrant = Boxed<ReferenceGrantFields>;
+
 #[tactic(auto, unfolding(crate::specs::Grants::from_of))]
 fn from(alloc: Global, spec: &Cursor<'_>) -> Result<Vec<GrantFrom>, Refusal>
     ensures { Gives (λ v. v.items) result (grants.from_of (place_of spec.now)) }
 {
-    let places = need_list(alloc, 16, "from", spec)?;
+    let places = spec.need_list(alloc, "from", 16)?;
     each_item(alloc, places.as_slice())
 }
 
@@ -97,7 +99,7 @@ fn from(alloc: Global, spec: &Cursor<'_>) -> Result<Vec<GrantFrom>, Refusal>
 fn to(alloc: Global, spec: &Cursor<'_>) -> Result<Vec<GrantTo>, Refusal>
     ensures { Gives (λ v. v.items) result (grants.to_of (place_of spec.now)) }
 {
-    let places = need_list(alloc, 16, "to", spec)?;
+    let places = spec.need_list(alloc, "to", 16)?;
     each_item(alloc, places.as_slice())
 }
 
@@ -106,8 +108,8 @@ fn to(alloc: Global, spec: &Cursor<'_>) -> Result<Vec<GrantTo>, Refusal>
 pub fn read_grant(alloc: Global, meta: Meta, at: &Cursor<'_>) -> Result<ReferenceGrant, Refusal>
     ensures { Gives (λ grant. grant) result (grants.grant_of meta (place_of at.now)) }
 {
-    let spec = spec(alloc, at)?;
+    let spec = at.spec(alloc)?;
     let from = from(alloc, &spec)?;
     let to = to(alloc, &spec)?;
-    Ok(ReferenceGrant { meta, from, to })
+    Ok(Boxed::new(alloc, ReferenceGrantFields { meta, from, to })?)
 }

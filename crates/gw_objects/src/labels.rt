@@ -3,7 +3,6 @@ ghost use Rattle.gw_json.specs.Words.{Gives, each};
 ghost use Rattle.gw_json.specs.Fields.{place_of, named_place};
 ghost use Rattle.gw_objects.specs.Labels as labels;
 
-use crate::fields::{metadata, text};
 use gw_json::{Cursor, Refusal};
 use gw_labels::Labels;
 use std::alloc::Global;
@@ -14,7 +13,7 @@ fn map_of(alloc: Global, members: &[(String, Cursor<'_>)]) -> Result<Labels, Ref
 {
     let mut map = Labels::new(alloc);
     'members: for member in members {
-        map.put(member.0.as_str(), text(alloc, 512, &member.1)?)?;
+        map.put(member.0.as_str(), member.1.text_in(alloc, 512)?)?;
     }
     Ok(map)
 }
@@ -28,11 +27,11 @@ fn words(alloc: Global, at: &Cursor<'_>) -> Result<Labels, Refusal>
 }
 
 /// The labels of the object.
-#[tactic(auto, unfolding(crate::specs::Labels::labels_of, crate::specs::Forms::defaulted))]
+#[tactic(auto, unfolding(crate::specs::Labels::labels_of, gw_json::specs::Rows::defaulted))]
 pub fn read_labels(alloc: Global, at: &Cursor<'_>) -> Result<Labels, Refusal>
     ensures { Gives (λ map. map) result (labels.labels_of (place_of at.now)) }
 {
-    match metadata(alloc, at)?.get(alloc, "labels")? {
+    match at.need_object(alloc, "metadata")?.get(alloc, "labels")? {
         Some(found) => words(alloc, &found),
         None => Ok(Labels::new(alloc)),
     }

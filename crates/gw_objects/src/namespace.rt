@@ -6,25 +6,28 @@ ghost use Rattle.gw_objects.specs.Namespaces as namespaces;
 use crate::labels::read_labels;
 use gw_json::{Cursor, Refusal};
 use gw_labels::Labels;
-use gw_text::Meta;
+use gw_text::{Boxed, Meta};
 use std::alloc::{AllocError, Global};
 use std::marker::Model;
 
-/// A Namespace.
+/// The fields of a Namespace.
 #[derive(Drop)]
-pub struct Namespace {
+pub struct NamespaceFields {
     pub meta: Meta,
     /// `kubernetes.io/metadata.name` is the namespace's own name.
     pub labels: Labels,
 }
 
-impl Model for Namespace {
+impl Model for NamespaceFields {
     ghost use Rattle.gw_text.specs.model.Namespaces.{Namespace as Plain};
 
     ghost Value = { Plain };
 
     ghost view = { λ n. record { meta = n.meta; labels = n.labels } };
 }
+
+/// A Namespace, one pointer wide.
+pub type Namespace = Boxed<NamespaceFields>;
 
 fn put_own_name(alloc: Global, meta: &Meta, labels: &mut Labels) -> Result<(), AllocError>
     ensures { OnOk result (labels.new ≡ namespaces.with_own_name meta.now labels.old) }
@@ -40,5 +43,5 @@ pub fn read_namespace(alloc: Global, meta: Meta, at: &Cursor<'_>) -> Result<Name
 {
     let mut labels = read_labels(alloc, at)?;
     put_own_name(alloc, &meta, &mut labels)?;
-    Ok(Namespace { meta, labels })
+    Ok(Boxed::new(alloc, NamespaceFields { meta, labels })?)
 }

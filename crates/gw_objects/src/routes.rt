@@ -1,15 +1,14 @@
 ghost use Rattle.std.specs.Prelude.{option_map};
 ghost use Rattle.gw_json.specs.Words.{Gives};
 ghost use Rattle.gw_json.specs.Fields.{place_of};
-ghost use Rattle.gw_objects.specs.Forms.{defaulted};
+ghost use Rattle.gw_json.specs.Rows.{defaulted};
 ghost use Rattle.gw_objects.specs.Gateways as gateways;
 ghost use Rattle.gw_objects.specs.Seen.{seen_selector};
 ghost use Rattle.gw_objects.specs.SeenFrom.{seen_from, seen_namespaces};
 
-use crate::fields::{list, need_word, text, word_or};
-use crate::items::{Item, each_item};
+use crate::fields::{need_word, word_or};
 use crate::selector::read_selector;
-use gw_json::{Cursor, Refusal};
+use gw_json::{Cursor, Item, Refusal, each_item};
 use gw_labels::Selector;
 use gw_text::Text;
 use std::alloc::Global;
@@ -75,7 +74,7 @@ impl Model for AllowedRoutes {
 fn from(alloc: Global, at: &Cursor<'_>) -> Result<FromNamespaces, Refusal>
     ensures { Gives seen_from result (gateways.from_of (place_of at.now)) }
 {
-    match text(alloc, usize::MAX, at)? {
+    match at.text_in(alloc, usize::MAX)? {
         "All" => Ok(FromNamespaces::All),
         "Same" => Ok(FromNamespaces::Same),
         "Selector" => Ok(FromNamespaces::Selector),
@@ -83,7 +82,7 @@ fn from(alloc: Global, at: &Cursor<'_>) -> Result<FromNamespaces, Refusal>
     }
 }
 
-#[tactic(auto, unfolding(crate::specs::Gateways::from_field_of, crate::specs::Forms::defaulted))]
+#[tactic(auto, unfolding(crate::specs::Gateways::from_field_of, gw_json::specs::Rows::defaulted))]
 fn from_field(alloc: Global, at: &Cursor<'_>) -> Result<FromNamespaces, Refusal>
     ensures { Gives seen_from result (gateways.from_field_of (place_of at.now)) }
 {
@@ -93,7 +92,7 @@ fn from_field(alloc: Global, at: &Cursor<'_>) -> Result<FromNamespaces, Refusal>
     }
 }
 
-#[tactic(auto, unfolding(crate::specs::Gateways::selector_field_of, crate::specs::Forms::given))]
+#[tactic(auto, unfolding(crate::specs::Gateways::selector_field_of, gw_json::specs::Rows::given))]
 fn selector_field(alloc: Global, at: &Cursor<'_>) -> Result<Option<Selector>, Refusal>
     ensures { Gives (option_map seen_selector) result (gateways.selector_field_of (place_of at.now)) }
 {
@@ -125,7 +124,7 @@ fn namespaces(alloc: Global, at: &Cursor<'_>) -> Result<(FromNamespaces, Option<
     Ok((from, selector))
 }
 
-#[tactic(auto, unfolding(crate::specs::Gateways::namespaces_field_of, crate::specs::Forms::defaulted))]
+#[tactic(auto, unfolding(crate::specs::Gateways::namespaces_field_of, gw_json::specs::Rows::defaulted))]
 fn namespaces_field(
     alloc: Global,
     at: &Cursor<'_>,
@@ -142,7 +141,7 @@ fn namespaces_field(
 fn route_kinds(alloc: Global, at: &Cursor<'_>) -> Result<Vec<RouteKind>, Refusal>
     ensures { Gives (λ v. v.items) result (gateways.route_kinds_of (place_of at.now)) }
 {
-    let places = list(alloc, 8, "kinds", at)?;
+    let places = at.list(alloc, "kinds", 8)?;
     each_item(alloc, places.as_slice())
 }
 
@@ -159,7 +158,7 @@ fn allowed_routes(alloc: Global, at: &Cursor<'_>) -> Result<AllowedRoutes, Refus
     })
 }
 
-#[tactic(auto, unfolding(crate::specs::Forms::defaulted))]
+#[tactic(auto, unfolding(gw_json::specs::Rows::defaulted))]
 fn routes_or_own(alloc: Global, field: &str, at: &Cursor<'_>) -> Result<AllowedRoutes, Refusal>
     ensures { Gives (λ routes. routes) result (defaulted gateways.own_routes gateways.allowed_routes_of field.now (place_of at.now)) }
 {

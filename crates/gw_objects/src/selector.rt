@@ -6,7 +6,6 @@ ghost use Rattle.gw_objects.specs.Forms.{word_of};
 ghost use Rattle.gw_objects.specs.Seen.{seen_op, seen_selector};
 ghost use Rattle.gw_objects.specs.Selectors as selectors;
 
-use crate::fields::{list, members, need_text, text};
 use gw_json::{Cursor, Refusal};
 use gw_labels::{Labels, Op, Selector};
 use std::alloc::Global;
@@ -16,7 +15,7 @@ fn ask(alloc: Global, member: &(String, Cursor<'_>), selector: &mut Selector) ->
     ensures { Gives (λ _. seen_selector selector.new) result (selectors.also (seen_selector selector.old) (selectors.asked_of (named_place member.now))) }
 {
     let mut value = Labels::new(alloc);
-    value.put(text(alloc, 512, &member.1)?, "")?;
+    value.put(member.1.text_in(alloc, 512)?, "")?;
     selector.need(member.0.as_str(), Op::In, &value)?;
     Ok(())
 }
@@ -38,7 +37,7 @@ fn ask_each(
 fn label_members<'v>(alloc: Global, at: &Cursor<'v>) -> Result<Vec<(String, Cursor<'v>)>, Refusal>
     ensures { Gives (λ v. map named_place v.items) result (selectors.label_members_of (place_of at.now)) }
 {
-    members(alloc, "matchLabels", at)
+    at.field_members(alloc, "matchLabels")
 }
 
 #[tactic(auto, unfolding(crate::specs::Selectors::match_labels_of))]
@@ -53,7 +52,7 @@ fn match_labels(alloc: Global, at: &Cursor<'_>, selector: &mut Selector) -> Resu
 fn op(alloc: Global, at: &Cursor<'_>) -> Result<Op, Refusal>
     ensures { Gives seen_op result (selectors.op_of (place_of at.now)) }
 {
-    match text(alloc, usize::MAX, at)? {
+    match at.text_in(alloc, usize::MAX)? {
         "In" => Ok(Op::In),
         "NotIn" => Ok(Op::NotIn),
         "Exists" => Ok(Op::Exists),
@@ -67,7 +66,7 @@ fn value_set(alloc: Global, places: &[Cursor<'_>]) -> Result<Labels, Refusal>
 {
     let mut set = Labels::new(alloc);
     'places: for place in places {
-        set.put(text(alloc, 512, place)?, "")?;
+        set.put(place.text_in(alloc, 512)?, "")?;
     }
     Ok(set)
 }
@@ -76,15 +75,15 @@ fn value_set(alloc: Global, places: &[Cursor<'_>]) -> Result<Labels, Refusal>
 fn values(alloc: Global, at: &Cursor<'_>) -> Result<Labels, Refusal>
     ensures { Gives keys_of result (selectors.values_of (place_of at.now)) }
 {
-    let places = list(alloc, 64, "values", at)?;
+    let places = at.list(alloc, "values", 64)?;
     value_set(alloc, places.as_slice())
 }
 
-#[tactic(auto, unfolding(crate::specs::Selectors::expression_of, crate::specs::Forms::needed))]
+#[tactic(auto, unfolding(crate::specs::Selectors::expression_of, gw_json::specs::Rows::needed))]
 fn expression(alloc: Global, at: &Cursor<'_>, selector: &mut Selector) -> Result<(), Refusal>
     ensures { Gives (λ _. seen_selector selector.new) result (selectors.also (seen_selector selector.old) (selectors.expression_of (place_of at.now))) }
 {
-    let key = need_text(alloc, 512, "key", at)?;
+    let key = at.need_text(alloc, "key", 512)?;
     let op = op(alloc, &at.need(alloc, "operator")?)?;
     let values = values(alloc, at)?;
     selector.need(key, op, &values)?;
@@ -108,7 +107,7 @@ fn each_expression(
 fn expression_places<'v>(alloc: Global, at: &Cursor<'v>) -> Result<Vec<Cursor<'v>>, Refusal>
     ensures { Gives (λ v. map place_of v.items) result (selectors.expression_places_of (place_of at.now)) }
 {
-    list(alloc, 64, "matchExpressions", at)
+    at.list(alloc, "matchExpressions", 64)
 }
 
 #[tactic(auto, unfolding(crate::specs::Selectors::match_expressions_of))]

@@ -2,10 +2,9 @@ ghost use Rattle.gw_json.specs.Words.{Gives};
 ghost use Rattle.gw_json.specs.Fields.{place_of};
 ghost use Rattle.gw_objects.specs.Services as services;
 
-use crate::fields::{list, need_port, some_text, some_word, spec, word_or};
-use crate::items::{Item, each_item};
-use gw_json::{Cursor, Refusal};
-use gw_text::{Meta, Text};
+use crate::fields::{some_word, word_or};
+use gw_json::{Cursor, Item, Refusal, each_item};
+use gw_text::{Boxed, Meta, Text};
 use std::alloc::Global;
 use std::marker::Model;
 
@@ -40,7 +39,7 @@ impl Item for ServicePort {
     #[tactic(auto, unfolding(crate::specs::Services::service_port_of))]
     fn read(alloc: Global, at: &Cursor<'_>) -> Result<ServicePort, Refusal> {
         let name = word_or(alloc, "", "name", at)?;
-        let port = need_port(alloc, at)?;
+        let port = at.need_port(alloc, "port")?;
         let protocol = word_or(alloc, "TCP", "protocol", at)?;
         let app_protocol = app_protocol(alloc, at)?;
         Ok(ServicePort {
@@ -52,16 +51,16 @@ impl Item for ServicePort {
     }
 }
 
-/// A Service.
+/// The fields of a Service.
 #[derive(Drop)]
-pub struct Service {
+pub struct ServiceFields {
     pub meta: Meta,
     /// Whether its type is ExternalName.
     pub external_name: bool,
     pub ports: Vec<ServicePort>,
 }
 
-impl Model for Service {
+impl Model for ServiceFields {
     ghost use Rattle.gw_text.specs.model.Services.{Service as Plain};
 
     ghost Value = { Plain };
@@ -69,11 +68,14 @@ impl Model for Service {
     ghost view = { λ s. record { meta = s.meta; external_name = s.external_name; ports = s.ports.items } };
 }
 
+/// A Service, one pointer wide.
+pub type Service = Boxed<ServiceFields>;
+
 #[tactic(auto, unfolding(crate::specs::Services::external_name_of))]
 fn external_name(alloc: Global, spec: &Cursor<'_>) -> Result<bool, Refusal>
     ensures { Gives (λ b. b) result (services.external_name_of (place_of spec.now)) }
 {
-    match some_text(alloc, 512, "type", spec)? {
+    match spec.some_text(alloc, "type", 512)? {
         Some(sort) => Ok(sort == "ExternalName"),
         None => Ok(false),
     }
@@ -83,7 +85,7 @@ fn external_name(alloc: Global, spec: &Cursor<'_>) -> Result<bool, Refusal>
 fn service_ports(alloc: Global, spec: &Cursor<'_>) -> Result<Vec<ServicePort>, Refusal>
     ensures { Gives (λ v. v.items) result (services.service_ports_of (place_of spec.now)) }
 {
-    let places = list(alloc, 1024, "ports", spec)?;
+    let places = spec.list(alloc, "ports", 1024)?;
     each_item(alloc, places.as_slice())
 }
 
@@ -92,12 +94,15 @@ fn service_ports(alloc: Global, spec: &Cursor<'_>) -> Result<Vec<ServicePort>, R
 pub fn read_service(alloc: Global, meta: Meta, at: &Cursor<'_>) -> Result<Service, Refusal>
     ensures { Gives (λ service. service) result (services.service_of meta (place_of at.now)) }
 {
-    let spec = spec(alloc, at)?;
+    let spec = at.spec(alloc)?;
     let external_name = external_name(alloc, &spec)?;
     let ports = service_ports(alloc, &spec)?;
-    Ok(Service {
-        meta,
-        external_name,
-        ports,
-    })
+    Ok(Boxed::new(
+        alloc,
+        ServiceFields {
+            meta,
+            external_name,
+            ports,
+        },
+    )?)
 }

@@ -3,13 +3,12 @@ ghost use Rattle.gw_json.specs.Words.{Gives, each};
 ghost use Rattle.gw_json.specs.Fields.{place_of};
 ghost use Rattle.gw_objects.specs.Slices as slices;
 
-use crate::fields::{list, need_word, some_port, text, word_or};
+use crate::fields::{need_word, word_or};
 use crate::ipv4::{Ipv4, parse_ipv4};
-use crate::items::{Item, each_item};
 use crate::labels::read_labels;
-use gw_json::{Cursor, Refusal};
+use gw_json::{Cursor, Item, Refusal, each_item};
 use gw_labels::Labels;
-use gw_text::{Meta, Text};
+use gw_text::{Boxed, Meta, Text};
 use std::alloc::Global;
 use std::marker::Model;
 
@@ -36,7 +35,7 @@ impl Item for EndpointPort {
     #[tactic(auto, unfolding(crate::specs::Slices::endpoint_port_of))]
     fn read(alloc: Global, at: &Cursor<'_>) -> Result<EndpointPort, Refusal> {
         let name = word_or(alloc, "", "name", at)?;
-        let port = some_port(alloc, at)?;
+        let port = at.some_port(alloc, "port")?;
         let protocol = word_or(alloc, "TCP", "protocol", at)?;
         Ok(EndpointPort {
             name,
@@ -64,9 +63,9 @@ impl Model for Endpoint {
     ghost inverse = { λ e. record { address = e.address; ready = e.ready } };
 }
 
-/// An EndpointSlice.
+/// The fields of an EndpointSlice.
 #[derive(Drop)]
-pub struct EndpointSlice {
+pub struct EndpointSliceFields {
     pub meta: Meta,
     pub labels: Labels,
     pub address_type: Text,
@@ -74,7 +73,7 @@ pub struct EndpointSlice {
     pub endpoints: Vec<Endpoint>,
 }
 
-impl Model for EndpointSlice {
+impl Model for EndpointSliceFields {
     ghost use Rattle.gw_text.specs.model.Slices.{EndpointSlice as Plain};
 
     ghost Value = { Plain };
@@ -82,11 +81,14 @@ impl Model for EndpointSlice {
     ghost view = { λ s. record { meta = s.meta; labels = s.labels; address_type = s.address_type; ports = s.ports.items; endpoints = s.endpoints.items } };
 }
 
+/// An EndpointSlice, one pointer wide.
+pub type EndpointSlice = Boxed<EndpointSliceFields>;
+
 #[tactic(auto, unfolding(crate::specs::Slices::endpoint_ports_of))]
 fn endpoint_ports(alloc: Global, at: &Cursor<'_>) -> Result<Vec<EndpointPort>, Refusal>
     ensures { Gives (λ v. v.items) result (slices.endpoint_ports_of (place_of at.now)) }
 {
-    let places = list(alloc, 1024, "ports", at)?;
+    let places = at.list(alloc, "ports", 1024)?;
     each_item(alloc, places.as_slice())
 }
 
@@ -94,7 +96,7 @@ fn endpoint_ports(alloc: Global, at: &Cursor<'_>) -> Result<Vec<EndpointPort>, R
 fn ipv4(alloc: Global, at: &Cursor<'_>) -> Result<Ipv4, Refusal>
     ensures { Gives (λ address. address) result (slices.ipv4_at (place_of at.now)) }
 {
-    let text = text(alloc, usize::MAX, at)?;
+    let text = at.text_in(alloc, usize::MAX)?;
     match parse_ipv4(text.as_bytes()) {
         Some(address) => Ok(address),
         None => Err(at.bad_value(alloc)?),
@@ -127,14 +129,14 @@ fn addresses(alloc: Global, of_ipv4: bool, at: &Cursor<'_>) -> Result<Option<Ipv
     }
 }
 
-#[tactic(auto, unfolding(crate::specs::Slices::addresses_field_of, crate::specs::Forms::needed))]
+#[tactic(auto, unfolding(crate::specs::Slices::addresses_field_of, gw_json::specs::Rows::needed))]
 fn addresses_field(alloc: Global, of_ipv4: bool, at: &Cursor<'_>) -> Result<Option<Ipv4>, Refusal>
     ensures { Gives (λ address. address) result (slices.addresses_field_of of_ipv4 (place_of at.now)) }
 {
     addresses(alloc, of_ipv4, &at.need(alloc, "addresses")?)
 }
 
-#[tactic(auto, unfolding(crate::specs::Slices::conditions_of, crate::specs::Forms::defaulted))]
+#[tactic(auto, unfolding(crate::specs::Slices::conditions_of, gw_json::specs::Rows::defaulted))]
 fn conditions(alloc: Global, at: &Cursor<'_>) -> Result<bool, Refusal>
     ensures { Gives (λ ready. ready) result (slices.conditions_of (place_of at.now)) }
 {
@@ -144,7 +146,7 @@ fn conditions(alloc: Global, at: &Cursor<'_>) -> Result<bool, Refusal>
     }
 }
 
-#[tactic(auto, unfolding(crate::specs::Slices::ready_of, crate::specs::Forms::defaulted))]
+#[tactic(auto, unfolding(crate::specs::Slices::ready_of, gw_json::specs::Rows::defaulted))]
 fn ready(alloc: Global, at: &Cursor<'_>) -> Result<bool, Refusal>
     ensures { Gives (λ ready. ready) result (slices.ready_of (place_of at.now)) }
 {
@@ -181,7 +183,7 @@ fn each_endpoint(
 fn endpoints(alloc: Global, of_ipv4: bool, at: &Cursor<'_>) -> Result<Vec<Endpoint>, Refusal>
     ensures { Gives (λ v. v.items) result (slices.endpoints_of of_ipv4 (place_of at.now)) }
 {
-    let places = list(alloc, usize::MAX, "endpoints", at)?;
+    let places = at.list(alloc, "endpoints", usize::MAX)?;
     each_endpoint(alloc, of_ipv4, places.as_slice())
 }
 
@@ -202,11 +204,14 @@ pub fn read_slice(alloc: Global, meta: Meta, at: &Cursor<'_>) -> Result<Endpoint
     let ports = endpoint_ports(alloc, at)?;
     let of_ipv4 = address_type.bytes() == b"IPv4".as_slice();
     let endpoints = endpoints(alloc, of_ipv4, at)?;
-    Ok(EndpointSlice {
-        meta,
-        labels,
-        address_type,
-        ports,
-        endpoints,
-    })
+    Ok(Boxed::new(
+        alloc,
+        EndpointSliceFields {
+            meta,
+            labels,
+            address_type,
+            ports,
+            endpoints,
+        },
+    )?)
 }

@@ -1,14 +1,12 @@
 -- The backendRefs of a rule, row by row. Source: HTTPBackendRef of the Gateway API reference.
 use Rattle.std.specs.Prelude.{ℕ, List, [], codes, bytes_eq, Bool, true, false, ◌&&◌, nat_lt, Option, Some, Result, Ok}
-use Rattle.serde_json.specs.Events.{items_len}
-use Rattle.serde_json.specs.Find.{as_array}
 use Rattle.gw_json.specs.declared.refusal.Refusal.{Refusal}
-use Rattle.gw_json.specs.declared.refusal.Refusal.TheVariants.{WrongType}
-use Rattle.gw_json.specs.Words.{◌>>=◌, or, each}
-use Rattle.gw_json.specs.Fields.{Place, number_of}
+use Rattle.gw_json.specs.Words.{◌>>=◌, each}
+use Rattle.gw_json.specs.Fields.{Place, item_count_of, number_of}
 use Rattle.gw_text.specs.model.Routes.{BackendRef}
 use Rattle.gw_route.specs.declared.form.Form.TheVariants.{Word, Name, Namespace}
-use Rattle.gw_route.specs.Words.{needed, given, defaulted, listed, formed, port_of}
+use Rattle.gw_json.specs.Rows.{needed, given, defaulted, listed, port_of}
+use Rattle.gw_route.specs.Words.{formed}
 
 -- The group and kind of a Service of the core API.
 abbrev pub is_service : List ℕ → List ℕ → Bool
@@ -24,8 +22,8 @@ backend_port_of false at = given port_of (codes "port") at
 -- A list of any length: whether it has items.
 unfoldable pub has_items_of : Place → Result Bool Refusal
 has_items_of at = do
-  items ← or (WrongType at.path) (as_array at.value)
-  Ok (nat_lt 0 (items_len items))
+  count ← item_count_of at
+  Ok (nat_lt 0 count)
 
 -- A reference from a Route of that namespace.
 unfoldable pub backend_of : List ℕ → Place → Result BackendRef Refusal

@@ -6,7 +6,8 @@ use Rattle.gw_json.specs.Fields.{Place, number_of}
 use Rattle.gw_text.specs.model.Fields.{Field}
 use Rattle.gw_text.specs.model.Filters.{Edits, PathModifier, replace_full_path, replace_prefix_match, another_modifier, Redirect, Rewrite, Filter, request_header_modifier, response_header_modifier, request_redirect, url_rewrite, another_filter}
 use Rattle.gw_route.specs.declared.form.Form.TheVariants.{Word, Hostname, Token, Value, Replacement}
-use Rattle.gw_route.specs.Words.{needed, given, listed, formed, port_of}
+use Rattle.gw_json.specs.Rows.{needed, given, listed, port_of}
+use Rattle.gw_route.specs.Words.{formed}
 
 unfoldable pub edited_of : Place → Result Field Refusal
 edited_of at = do

@@ -6,7 +6,8 @@ use Rattle.gw_json.specs.Fields.{Place}
 use Rattle.gw_text.specs.model.Matches.{PathMatch, HeaderMatch, QueryParamMatch, Match}
 use Rattle.gw_route.specs.declared.form.Form.{Form}
 use Rattle.gw_route.specs.declared.form.Form.TheVariants.{Word, Token, Value, Path, OtherPath, ParameterName, ParameterValue}
-use Rattle.gw_route.specs.Words.{needed, given, defaulted, listed, formed}
+use Rattle.gw_json.specs.Rows.{needed, given, defaulted, listed}
+use Rattle.gw_route.specs.Words.{formed}
 
 -- The form of a path depends on the type of the match.
 unfoldable pub path_form : List ℕ → Form

@@ -5,7 +5,8 @@ use Rattle.gw_json.specs.Words.{◌>>=◌, each}
 use Rattle.gw_json.specs.Fields.{Place}
 use Rattle.gw_text.specs.model.Routes.{ParentRef}
 use Rattle.gw_route.specs.declared.form.Form.TheVariants.{Word, Name, Namespace}
-use Rattle.gw_route.specs.Words.{needed, given, defaulted, listed, formed, port_of}
+use Rattle.gw_json.specs.Rows.{needed, given, defaulted, listed, port_of}
+use Rattle.gw_route.specs.Words.{formed}
 
 unfoldable pub parent_group_of : Place → Result (List ℕ) Refusal
 parent_group_of at = defaulted (codes "gateway.networking.k8s.io") (formed Word) (codes "group") at

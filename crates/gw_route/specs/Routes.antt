@@ -6,7 +6,8 @@ use Rattle.gw_json.specs.Fields.{Place, items_of}
 use Rattle.gw_text.specs.model.Hostnames.{Host}
 use Rattle.gw_text.specs.model.Meta.{Meta}
 use Rattle.gw_text.specs.model.Routes.{Rule, HttpRoute}
-use Rattle.gw_route.specs.Words.{defaulted, is_given, listed, spec_of, hostname_of}
+use Rattle.gw_json.specs.Rows.{defaulted, is_given, listed, spec_of}
+use Rattle.gw_route.specs.Words.{hostname_of}
 use Rattle.gw_route.specs.Parents.{parents_of}
 use Rattle.gw_route.specs.Matches.{default_match, matches_of}
 use Rattle.gw_route.specs.Filters.{filters_of}

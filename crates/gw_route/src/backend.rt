@@ -1,12 +1,12 @@
 ghost use Rattle.std.specs.Prelude.{◌≡◌, map, codes, false};
 ghost use Rattle.gw_json.specs.Words.{Gives, each};
 ghost use Rattle.gw_json.specs.Fields.{place_of, number_of};
-ghost use Rattle.gw_route.specs.Words.{defaulted};
+ghost use Rattle.gw_json.specs.Rows.{defaulted};
 ghost use Rattle.gw_route.specs.Backends as backends;
 
 use crate::form::Form;
 use crate::plain::BackendRef;
-use crate::words::{form_or, list, need_form, need_port, some_port};
+use crate::words::{form_or, need_form};
 use gw_json::{Cursor, Refusal};
 use gw_text::Text;
 use std::alloc::Global;
@@ -22,12 +22,12 @@ fn backend_port(alloc: Global, of_service: bool, at: &Cursor<'_>) -> Result<Opti
     ensures { Gives (λ n. n) result (backends.backend_port_of of_service (place_of at.now)) }
 {
     if of_service {
-        return Ok(Some(need_port(alloc, at)?));
+        return Ok(Some(at.need_port(alloc, "port")?));
     }
-    some_port(alloc, at)
+    at.some_port(alloc, "port")
 }
 
-#[tactic(auto, unfolding(crate::specs::Words::defaulted))]
+#[tactic(auto, unfolding(gw_json::specs::Rows::defaulted))]
 fn weight(alloc: Global, at: &Cursor<'_>) -> Result<u32, Refusal>
     ensures { Gives (λ n. n) result (defaulted 1 (number_of 0 1000000) (codes "weight") (place_of at.now)) }
 {
@@ -37,17 +37,14 @@ fn weight(alloc: Global, at: &Cursor<'_>) -> Result<u32, Refusal>
     }
 }
 
-#[tactic(auto, using(crate::proofs::ItemLemmas::items_len_is), unfolding(crate::specs::Backends::has_items_of))]
+#[tactic(auto, unfolding(crate::specs::Backends::has_items_of))]
 fn has_items(alloc: Global, at: &Cursor<'_>) -> Result<bool, Refusal>
     ensures { Gives (λ b. b) result (backends.has_items_of (place_of at.now)) }
 {
-    match at.value.as_array() {
-        Some(items) => Ok(items.len() > 0),
-        None => Err(Refusal::WrongType(at.path.copied(alloc)?)),
-    }
+    Ok(at.item_count(alloc)? > 0)
 }
 
-#[tactic(auto, unfolding(crate::specs::Words::defaulted))]
+#[tactic(auto, unfolding(gw_json::specs::Rows::defaulted))]
 fn has_filters(alloc: Global, at: &Cursor<'_>) -> Result<bool, Refusal>
     ensures { Gives (λ b. b) result (defaulted false backends.has_items_of (codes "filters") (place_of at.now)) }
 {
@@ -97,7 +94,7 @@ fn each_backend(
 fn backend_places<'v>(alloc: Global, rule: &Cursor<'v>) -> Result<Vec<Cursor<'v>>, Refusal>
     ensures { Gives (λ v. map place_of v.items) result (backends.backend_places_of (place_of rule.now)) }
 {
-    list(alloc, 16, "backendRefs", rule)
+    rule.list(alloc, "backendRefs", 16)
 }
 
 /// The backendRefs of a rule, in a Route of the namespace `own`.

@@ -1,36 +1,44 @@
 ghost use Rattle.std.specs.Prelude.{◌≡◌, map, codes, option_map};
 ghost use Rattle.gw_json.specs.Words.{Gives, each};
 ghost use Rattle.gw_json.specs.Fields.{place_of, number_of};
-ghost use Rattle.gw_route.specs.Words.{given, formed, needed};
+ghost use Rattle.gw_json.specs.Rows.{given, needed};
+ghost use Rattle.gw_route.specs.Words.{formed};
 ghost use Rattle.gw_route.specs.Filters as filters;
 ghost use Rattle.gw_route.specs.SeenModifier.{seen_modifier};
 ghost use Rattle.gw_route.specs.SeenFilter.{seen_filter};
 
 use crate::form::Form;
-use crate::items::{Item, each_item};
 use crate::plain::{Edits, Filter, PathModifier, Redirect, Rewrite};
-use crate::words::{form, list, need_form, need_word, some_form, some_port};
+use crate::words::{form, need_form, need_word, some_form};
 use gw_json::{Cursor, Refusal};
 use gw_text::{Field, Text};
 use std::alloc::Global;
 
-impl Item for Field {
-    ghost of = { filters.edited_of };
+#[tactic(auto, unfolding(crate::specs::Filters::edited_of))]
+fn edited(alloc: Global, at: &Cursor<'_>) -> Result<Field, Refusal>
+    ensures { Gives (λ field. field) result (filters.edited_of (place_of at.now)) }
+{
+    let name = need_form(alloc, Form::Token, "name", at)?;
+    let value = need_form(alloc, Form::Value, "value", at)?;
+    Ok(Field { name, value })
+}
 
-    #[tactic(auto, unfolding(crate::specs::Filters::edited_of))]
-    fn read(alloc: Global, at: &Cursor<'_>) -> Result<Field, Refusal> {
-        let name = need_form(alloc, Form::Token, "name", at)?;
-        let value = need_form(alloc, Form::Value, "value", at)?;
-        Ok(Field { name, value })
+fn each_edited(alloc: Global, places: &[Cursor<'_>]) -> Result<Vec<Field>, Refusal>
+    ensures { Gives (λ v. v.items) result (each filters.edited_of (map place_of places.now)) }
+{
+    let mut fields = Vec::new(alloc);
+    'places: for place in places {
+        fields.push(edited(alloc, place)?)?;
     }
+    Ok(fields)
 }
 
 #[tactic(auto, unfolding(crate::specs::Filters::fields_of))]
 fn fields(alloc: Global, name: &str, at: &Cursor<'_>) -> Result<Vec<Field>, Refusal>
     ensures { Gives (λ v. v.items) result (filters.fields_of name.now (place_of at.now)) }
 {
-    let places = list(alloc, 16, name, at)?;
-    each_item(alloc, places.as_slice())
+    let places = at.list(alloc, name, 16)?;
+    each_edited(alloc, places.as_slice())
 }
 
 fn each_name(alloc: Global, places: &[Cursor<'_>]) -> Result<Vec<Text>, Refusal>
@@ -47,7 +55,7 @@ fn each_name(alloc: Global, places: &[Cursor<'_>]) -> Result<Vec<Text>, Refusal>
 fn removed(alloc: Global, at: &Cursor<'_>) -> Result<Vec<Text>, Refusal>
     ensures { Gives (λ v. v.items) result (filters.removed_of (place_of at.now)) }
 {
-    let places = list(alloc, 16, "remove", at)?;
+    let places = at.list(alloc, "remove", 16)?;
     each_name(alloc, places.as_slice())
 }
 
@@ -96,7 +104,7 @@ fn modifier(alloc: Global, at: &Cursor<'_>) -> Result<PathModifier, Refusal>
     modifier_by(alloc, sort, at)
 }
 
-#[tactic(auto, unfolding(crate::specs::Words::given))]
+#[tactic(auto, unfolding(gw_json::specs::Rows::given))]
 fn some_modifier(alloc: Global, at: &Cursor<'_>) -> Result<Option<PathModifier>, Refusal>
     ensures { Gives (option_map seen_modifier) result (given filters.modifier_of (codes "path") (place_of at.now)) }
 {
@@ -106,7 +114,7 @@ fn some_modifier(alloc: Global, at: &Cursor<'_>) -> Result<Option<PathModifier>,
     }
 }
 
-#[tactic(auto, unfolding(crate::specs::Words::given))]
+#[tactic(auto, unfolding(gw_json::specs::Rows::given))]
 fn status_code(alloc: Global, at: &Cursor<'_>) -> Result<Option<u16>, Refusal>
     ensures { Gives (λ n. n) result (given (number_of 100 599) (codes "statusCode") (place_of at.now)) }
 {
@@ -123,7 +131,7 @@ fn redirect(alloc: Global, at: &Cursor<'_>) -> Result<Redirect, Refusal>
     let scheme = some_form(alloc, Form::Word, "scheme", at)?;
     let hostname = some_form(alloc, Form::Hostname, "hostname", at)?;
     let path = some_modifier(alloc, at)?;
-    let port = some_port(alloc, at)?;
+    let port = at.some_port(alloc, "port")?;
     let status_code = status_code(alloc, at)?;
     Ok(Redirect {
         scheme,
@@ -143,7 +151,7 @@ fn rewrite(alloc: Global, at: &Cursor<'_>) -> Result<Rewrite, Refusal>
     Ok(Rewrite { hostname, path })
 }
 
-#[tactic(auto, unfolding(crate::specs::Words::needed))]
+#[tactic(auto, unfolding(gw_json::specs::Rows::needed))]
 fn need_edits(alloc: Global, field: &str, at: &Cursor<'_>) -> Result<Edits, Refusal>
     ensures { Gives (λ x. x) result (needed filters.edits_of field.now (place_of at.now)) }
 {
@@ -164,7 +172,7 @@ fn response_edits(alloc: Global, at: &Cursor<'_>) -> Result<Edits, Refusal>
     need_edits(alloc, "responseHeaderModifier", at)
 }
 
-#[tactic(auto, unfolding(crate::specs::Words::needed))]
+#[tactic(auto, unfolding(gw_json::specs::Rows::needed))]
 fn need_redirect(alloc: Global, field: &str, at: &Cursor<'_>) -> Result<Redirect, Refusal>
     ensures { Gives (λ x. x) result (needed filters.redirect_of field.now (place_of at.now)) }
 {
@@ -178,7 +186,7 @@ fn redirect_field(alloc: Global, at: &Cursor<'_>) -> Result<Redirect, Refusal>
     need_redirect(alloc, "requestRedirect", at)
 }
 
-#[tactic(auto, unfolding(crate::specs::Filters::rewrite_field_of, crate::specs::Words::needed))]
+#[tactic(auto, unfolding(crate::specs::Filters::rewrite_field_of, gw_json::specs::Rows::needed))]
 fn rewrite_field(alloc: Global, at: &Cursor<'_>) -> Result<Rewrite, Refusal>
     ensures { Gives (λ x. x) result (filters.rewrite_field_of (place_of at.now)) }
 {
@@ -221,6 +229,6 @@ fn each_filter(alloc: Global, places: &[Cursor<'_>]) -> Result<Vec<Filter>, Refu
 pub fn filters(alloc: Global, rule: &Cursor<'_>) -> Result<Vec<Filter>, Refusal>
     ensures { Gives (λ v. map seen_filter v.items) result (filters.filters_of (place_of rule.now)) }
 {
-    let places = list(alloc, 16, "filters", rule)?;
+    let places = rule.list(alloc, "filters", 16)?;
     each_filter(alloc, places.as_slice())
 }

@@ -48,6 +48,7 @@ impl Form {
         }
     }
 
+    /// Whether the text is of this form, whatever its length where the form says nothing of it.
     pub fn fits(self, text: &str) -> bool
         ensures { result ≡ fits self text.now }
     {

@@ -5,7 +5,6 @@
 mod backend;
 mod filter;
 mod form;
-mod items;
 mod matching;
 mod parent;
 mod plain;
@@ -15,7 +14,7 @@ mod tests;
 mod words;
 
 pub use plain::{
-    BackendRef, Edits, Filter, HeaderMatch, HttpRoute, Match, ParentRef, PathMatch, PathModifier,
-    QueryParamMatch, Redirect, Rewrite, Rule,
+    BackendRef, Edits, Filter, HeaderMatch, HttpRoute, HttpRouteFields, Match, ParentRef,
+    PathMatch, PathModifier, QueryParamMatch, Redirect, Rewrite, Rule,
 };
 pub use route::read_route;

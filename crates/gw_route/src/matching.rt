@@ -1,14 +1,13 @@
 ghost use Rattle.std.specs.Prelude.{◌≡◌, [], IfOk, codes, map};
 ghost use Rattle.gw_json.specs.Words.{Gives};
 ghost use Rattle.gw_json.specs.Fields.{place_of};
-ghost use Rattle.gw_route.specs.Words.{defaulted};
+ghost use Rattle.gw_json.specs.Rows.{defaulted};
 ghost use Rattle.gw_route.specs.Matches as matches;
 
 use crate::form::Form;
-use crate::items::{Item, each_item};
 use crate::plain::{HeaderMatch, Match, PathMatch, QueryParamMatch};
-use crate::words::{form_or, list, need_form, some_form};
-use gw_json::{Cursor, Refusal};
+use crate::words::{form_or, need_form, some_form};
+use gw_json::{Cursor, Item, Refusal, each_item};
 use gw_text::Text;
 use std::alloc::{AllocError, Global};
 
@@ -82,7 +81,7 @@ fn any_path(alloc: Global) -> Result<PathMatch, AllocError>
     Ok(PathMatch { sort, value })
 }
 
-#[tactic(auto, unfolding(crate::specs::Words::defaulted))]
+#[tactic(auto, unfolding(gw_json::specs::Rows::defaulted))]
 fn path_field(alloc: Global, at: &Cursor<'_>) -> Result<PathMatch, Refusal>
     ensures { Gives (λ p. p) result (defaulted matches.any_path matches.path_of (codes "path") (place_of at.now)) }
 {
@@ -96,7 +95,7 @@ fn path_field(alloc: Global, at: &Cursor<'_>) -> Result<PathMatch, Refusal>
 fn headers(alloc: Global, at: &Cursor<'_>) -> Result<Vec<HeaderMatch>, Refusal>
     ensures { Gives (λ v. v.items) result (matches.headers_of (place_of at.now)) }
 {
-    let places = list(alloc, 16, "headers", at)?;
+    let places = at.list(alloc, "headers", 16)?;
     each_item(alloc, places.as_slice())
 }
 
@@ -104,7 +103,7 @@ fn headers(alloc: Global, at: &Cursor<'_>) -> Result<Vec<HeaderMatch>, Refusal>
 fn query_places<'v>(alloc: Global, at: &Cursor<'v>) -> Result<Vec<Cursor<'v>>, Refusal>
     ensures { Gives (λ v. map place_of v.items) result (matches.query_places_of (place_of at.now)) }
 {
-    list(alloc, 16, "queryParams", at)
+    at.list(alloc, "queryParams", 16)
 }
 
 #[tactic(auto, unfolding(crate::specs::Matches::query_params_of))]
@@ -140,7 +139,7 @@ pub fn default_matches(alloc: Global) -> Result<Vec<Match>, AllocError>
 pub fn matches(alloc: Global, rule: &Cursor<'_>) -> Result<Vec<Match>, Refusal>
     ensures { Gives (λ v. v.items) result (matches.matches_of (place_of rule.now)) }
 {
-    let places = list(alloc, 64, "matches", rule)?;
+    let places = rule.list(alloc, "matches", 64)?;
     let matches = each_item(alloc, places.as_slice())?;
     if matches.is_empty() {
         return Ok(default_matches(alloc)?);

@@ -5,7 +5,7 @@ ghost use Rattle.gw_route.specs.Parents as parents;
 
 use crate::form::Form;
 use crate::plain::ParentRef;
-use crate::words::{form_or, list, need_form, some_form, some_port};
+use crate::words::{form_or, need_form, some_form};
 use gw_json::{Cursor, Refusal};
 use gw_text::Text;
 use std::alloc::Global;
@@ -33,7 +33,7 @@ fn parent(alloc: Global, own: &[u8], at: &Cursor<'_>) -> Result<ParentRef, Refus
     let namespace = form_or(alloc, own, Form::Namespace, "namespace", at)?;
     let name = need_form(alloc, Form::Name, "name", at)?;
     let section_name = section_name(alloc, at)?;
-    let port = some_port(alloc, at)?;
+    let port = at.some_port(alloc, "port")?;
     Ok(ParentRef {
         group,
         kind,
@@ -59,6 +59,6 @@ fn each_parent(alloc: Global, own: &[u8], places: &[Cursor<'_>]) -> Result<Vec<P
 pub fn parents(alloc: Global, own: &[u8], spec: &Cursor<'_>) -> Result<Vec<ParentRef>, Refusal>
     ensures { Gives (λ v. v.items) result (parents.parents_of own.now (place_of spec.now)) }
 {
-    let places = list(alloc, 32, "parentRefs", spec)?;
+    let places = spec.list(alloc, "parentRefs", 32)?;
     each_parent(alloc, own, places.as_slice())
 }

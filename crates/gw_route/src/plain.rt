@@ -1,5 +1,5 @@
 //! HTTPRoutes and their parts, with the defaults of absent fields filled in. A field `type` is called `sort`.
-use gw_text::{Field, Host, Meta, Text};
+use gw_text::{Boxed, Field, Host, Meta, Text};
 use std::marker::Model;
 
 /// What a Route wants to be attached to: as a rule a Gateway, or one listener of it.
@@ -209,19 +209,22 @@ impl Model for Rule {
     ghost view = { λ r. record { matches = r.matches.items; filters = map seen_filter r.filters.items; backend_refs = r.backend_refs.items; timeouts = r.timeouts } };
 }
 
-/// An HTTPRoute.
+/// The fields of an HTTPRoute.
 #[derive(Drop)]
-pub struct HttpRoute {
+pub struct HttpRouteFields {
     pub meta: Meta,
     pub parent_refs: Vec<ParentRef>,
     pub hostnames: Vec<Host>,
     pub rules: Vec<Rule>,
 }
 
-impl Model for HttpRoute {
+impl Model for HttpRouteFields {
     ghost use Rattle.gw_text.specs.model.Routes.{HttpRoute as Plain};
 
     ghost Value = { Plain };
 
     ghost view = { λ r. record { meta = r.meta; parent_refs = r.parent_refs.items; hostnames = r.hostnames.items; rules = r.rules.items } };
 }
+
+/// An HTTPRoute, one pointer wide.
+pub type HttpRoute = Boxed<HttpRouteFields>;

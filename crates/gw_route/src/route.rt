@@ -7,29 +7,30 @@ ghost use Rattle.gw_route.specs.Routes as routes;
 
 use crate::backend::backends;
 use crate::filter::filters;
-use crate::items::{Item, each_item};
 use crate::matching::{default_matches, matches};
 use crate::parent::parents;
-use crate::plain::{HttpRoute, Rule};
-use crate::words::{hostname, is_given, list, spec};
+use crate::plain::{HttpRoute, HttpRouteFields, Rule};
+use crate::words::hostname;
 use gw_json::{Cursor, Refusal};
-use gw_text::{Host, Meta};
+use gw_text::{Boxed, Host, Meta};
 use std::alloc::{AllocError, Global};
 
-impl Item for Host {
-    ghost of = { hostname_of };
-
-    fn read(alloc: Global, at: &Cursor<'_>) -> Result<Host, Refusal> {
-        hostname(alloc, at)
+fn each_hostname(alloc: Global, places: &[Cursor<'_>]) -> Result<Vec<Host>, Refusal>
+    ensures { Gives (λ v. v.items) result (each hostname_of (map place_of places.now)) }
+{
+    let mut hostnames = Vec::new(alloc);
+    'places: for place in places {
+        hostnames.push(hostname(alloc, place)?)?;
     }
+    Ok(hostnames)
 }
 
 #[tactic(auto, unfolding(crate::specs::Routes::hostnames_of))]
 fn hostnames(alloc: Global, spec: &Cursor<'_>) -> Result<Vec<Host>, Refusal>
     ensures { Gives (λ v. v.items) result (routes.hostnames_of (place_of spec.now)) }
 {
-    let places = list(alloc, 16, "hostnames", spec)?;
-    each_item(alloc, places.as_slice())
+    let places = spec.list(alloc, "hostnames", 16)?;
+    each_hostname(alloc, places.as_slice())
 }
 
 #[tactic(auto, unfolding(crate::specs::Routes::rule_of))]
@@ -39,7 +40,7 @@ fn rule(alloc: Global, own: &[u8], at: &Cursor<'_>) -> Result<Rule, Refusal>
     let matches = matches(alloc, at)?;
     let filters = filters(alloc, at)?;
     let backend_refs = backends(alloc, own, at)?;
-    let timeouts = is_given(alloc, "timeouts", at)?;
+    let timeouts = at.is_given(alloc, "timeouts")?;
     Ok(Rule {
         matches,
         filters,
@@ -80,7 +81,7 @@ fn default_rules(alloc: Global) -> Result<Vec<Rule>, AllocError>
     Ok(rules)
 }
 
-#[tactic(auto, unfolding(crate::specs::Routes::rules_of, crate::specs::Words::defaulted))]
+#[tactic(auto, unfolding(crate::specs::Routes::rules_of, gw_json::specs::Rows::defaulted))]
 fn rules(alloc: Global, own: &[u8], spec: &Cursor<'_>) -> Result<Vec<Rule>, Refusal>
     ensures { Gives (λ v. v.items) result (routes.rules_of own.now (place_of spec.now)) }
 {
@@ -95,14 +96,17 @@ fn rules(alloc: Global, own: &[u8], spec: &Cursor<'_>) -> Result<Vec<Rule>, Refu
 pub fn read_route(alloc: Global, meta: Meta, at: &Cursor<'_>) -> Result<HttpRoute, Refusal>
     ensures { Gives (λ r. r) result (routes.route_of meta (place_of at.now)) }
 {
-    let spec = spec(alloc, at)?;
+    let spec = at.spec(alloc)?;
     let parent_refs = parents(alloc, meta.key.namespace.bytes(), &spec)?;
     let hostnames = hostnames(alloc, &spec)?;
     let rules = rules(alloc, meta.key.namespace.bytes(), &spec)?;
-    Ok(HttpRoute {
-        meta,
-        parent_refs,
-        hostnames,
-        rules,
-    })
+    Ok(Boxed::new(
+        alloc,
+        HttpRouteFields {
+            meta,
+            parent_refs,
+            hostnames,
+            rules,
+        },
+    )?)
 }

@@ -4,88 +4,40 @@ use gw_text::{Field, Host, Key, Meta, Text};
 use std::alloc::{AllocError, Global};
 use std::test::*;
 
-// What stands before and after the members of an object in a spec, and the object's path. Each object has a field that
-// isn't known and the fields that it can't do without; of a field that is given twice the last counts.
+// What stands round the members of an object in a spec: a name, the object's path, and what stands before and after. Each
+// object has a field that isn't known and the fields that it can't do without; of a field that is given twice the last
+// counts.
+const PLACES: &str = r#"
+spec spec "x":0,
+parent spec.parentRefs[0] "parentRefs":[{"x":{},"name":"g", }]
+rule spec.rules[0] "rules":[{"x":[null], }]
+match spec.rules[0].matches[0] "rules":[{"matches":[{"x":1, }]}]
+path spec.rules[0].matches[0].path "rules":[{"matches":[{"path":{"x":1, }}]}]
+header spec.rules[0].matches[1].headers[0] "rules":[{"matches":[{},{"headers":[{"x":1,"name":"a","value":"", }]}]}]
+query spec.rules[0].matches[0].queryParams[0] "rules":[{"matches":[{"queryParams":[{"x":1,"name":"a","value":"", }]}]}]
+backend spec.rules[1].backendRefs[0] "rules":[{},{"backendRefs":[{"x":1,"name":"s","port":80, }]}]
+filter spec.rules[0].filters[0] "rules":[{"filters":[{"x":1,"type":"Other", }]}]
+request spec.rules[0].filters[0].requestHeaderModifier "rules":[{"filters":[{"type":"RequestHeaderModifier","requestHeaderModifier":{"x":1, }}]}]
+response spec.rules[0].filters[0].responseHeaderModifier "rules":[{"filters":[{"type":"ResponseHeaderModifier","responseHeaderModifier":{"x":1, }}]}]
+set spec.rules[0].filters[0].requestHeaderModifier.set[0] "rules":[{"filters":[{"type":"RequestHeaderModifier","requestHeaderModifier":{"set":[{"x":1,"name":"a","value":"", }]}}]}]
+add spec.rules[0].filters[0].responseHeaderModifier.add[0] "rules":[{"filters":[{"type":"ResponseHeaderModifier","responseHeaderModifier":{"add":[{"x":1,"name":"a","value":"", }]}}]}]
+redirect spec.rules[0].filters[0].requestRedirect "rules":[{"filters":[{"type":"RequestRedirect","requestRedirect":{"x":1, }}]}]
+rewrite spec.rules[0].filters[0].urlRewrite "rules":[{"filters":[{"type":"URLRewrite","urlRewrite":{"x":1, }}]}]
+full spec.rules[0].filters[0].requestRedirect.path "rules":[{"filters":[{"type":"RequestRedirect","requestRedirect":{"path":{"type":"ReplaceFullPath","replaceFullPath":"/", }}}]}]
+prefix spec.rules[0].filters[0].urlRewrite.path "rules":[{"filters":[{"type":"URLRewrite","urlRewrite":{"path":{"type":"ReplacePrefixMatch","replacePrefixMatch":"/", }}}]}]
+"#;
+
+// What stands before and after the members of an object, and the object's path.
 fn place(name: &str) -> (&'static str, &'static str, &'static str) {
-    match name {
-        "parent" => (
-            "\"parentRefs\":[{\"x\":{},\"name\":\"g\",",
-            "}]",
-            "spec.parentRefs[0]",
-        ),
-        "rule" => ("\"rules\":[{\"x\":[null],", "}]", "spec.rules[0]"),
-        "match" => (
-            "\"rules\":[{\"matches\":[{\"x\":1,",
-            "}]}]",
-            "spec.rules[0].matches[0]",
-        ),
-        "path" => (
-            "\"rules\":[{\"matches\":[{\"path\":{\"x\":1,",
-            "}}]}]",
-            "spec.rules[0].matches[0].path",
-        ),
-        "header" => (
-            "\"rules\":[{\"matches\":[{},{\"headers\":[{\"x\":1,\"name\":\"a\",\"value\":\"\",",
-            "}]}]}]",
-            "spec.rules[0].matches[1].headers[0]",
-        ),
-        "query" => (
-            "\"rules\":[{\"matches\":[{\"queryParams\":[{\"x\":1,\"name\":\"a\",\"value\":\"\",",
-            "}]}]}]",
-            "spec.rules[0].matches[0].queryParams[0]",
-        ),
-        "backend" => (
-            "\"rules\":[{},{\"backendRefs\":[{\"x\":1,\"name\":\"s\",\"port\":80,",
-            "}]}]",
-            "spec.rules[1].backendRefs[0]",
-        ),
-        "filter" => (
-            "\"rules\":[{\"filters\":[{\"x\":1,\"type\":\"Other\",",
-            "}]}]",
-            "spec.rules[0].filters[0]",
-        ),
-        "request" => (
-            "\"rules\":[{\"filters\":[{\"type\":\"RequestHeaderModifier\",\"requestHeaderModifier\":{\"x\":1,",
-            "}}]}]",
-            "spec.rules[0].filters[0].requestHeaderModifier",
-        ),
-        "response" => (
-            "\"rules\":[{\"filters\":[{\"type\":\"ResponseHeaderModifier\",\"responseHeaderModifier\":{\"x\":1,",
-            "}}]}]",
-            "spec.rules[0].filters[0].responseHeaderModifier",
-        ),
-        "set" => (
-            "\"rules\":[{\"filters\":[{\"type\":\"RequestHeaderModifier\",\"requestHeaderModifier\":{\"set\":[{\"x\":1,\"name\":\"a\",\"value\":\"\",",
-            "}]}}]}]",
-            "spec.rules[0].filters[0].requestHeaderModifier.set[0]",
-        ),
-        "add" => (
-            "\"rules\":[{\"filters\":[{\"type\":\"ResponseHeaderModifier\",\"responseHeaderModifier\":{\"add\":[{\"x\":1,\"name\":\"a\",\"value\":\"\",",
-            "}]}}]}]",
-            "spec.rules[0].filters[0].responseHeaderModifier.add[0]",
-        ),
-        "redirect" => (
-            "\"rules\":[{\"filters\":[{\"type\":\"RequestRedirect\",\"requestRedirect\":{\"x\":1,",
-            "}}]}]",
-            "spec.rules[0].filters[0].requestRedirect",
-        ),
-        "rewrite" => (
-            "\"rules\":[{\"filters\":[{\"type\":\"URLRewrite\",\"urlRewrite\":{\"x\":1,",
-            "}}]}]",
-            "spec.rules[0].filters[0].urlRewrite",
-        ),
-        "full" => (
-            "\"rules\":[{\"filters\":[{\"type\":\"RequestRedirect\",\"requestRedirect\":{\"path\":{\"type\":\"ReplaceFullPath\",\"replaceFullPath\":\"/\",",
-            "}}}]}]",
-            "spec.rules[0].filters[0].requestRedirect.path",
-        ),
-        "prefix" => (
-            "\"rules\":[{\"filters\":[{\"type\":\"URLRewrite\",\"urlRewrite\":{\"path\":{\"type\":\"ReplacePrefixMatch\",\"replacePrefixMatch\":\"/\",",
-            "}}}]}]",
-            "spec.rules[0].filters[0].urlRewrite.path",
-        ),
-        _ => ("\"x\":0,", "", "spec"),
+    for row in PLACES.lines() {
+        let mut words = row.split(' ');
+        if words.next() == Some(name) {
+            let path = words.next().unwrap_or("");
+            let open = words.next().unwrap_or("");
+            return (open, words.next().unwrap_or(""), path);
+        }
     }
+    ("", "", "")
 }
 
 // The Route of the namespace `own` that a JSON text holds.

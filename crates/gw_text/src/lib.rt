@@ -2,6 +2,7 @@
 // lists that the contracts of every crate above speak of.
 #![tactic(auto)]
 
+mod boxed;
 mod door;
 mod doors;
 mod field;
@@ -16,6 +17,7 @@ mod socket;
 mod tests;
 mod text;
 
+pub use boxed::Boxed;
 pub use door::Door;
 pub use doors::{DoorFault, Doors};
 pub use field::Field;

@@ -1,600 +1,154 @@
-use super::answer;
-use std::test::Fail;
+use super::{answer, filled, place_named, refusal_at};
+use std::alloc::{AllocError, Global};
+use std::test::*;
 
-// The JSON types, and those of no field: null, and numbers that aren't whole.
-#[derive(Clone, Copy, PartialEq, Eq)]
-enum Sort {
-    Null,
-    Fraction,
-    Truth,
-    Number,
-    Text,
-    List,
-    Object,
-    Any,
-}
+// A place, a field of it, the field's type, and whether it must be there: an item can't be left out, and null is another
+// type there.
+const FIELDS: &[u8] = b"
+class metadata object need
+class.metadata name text need
+class.metadata namespace any may
+class.metadata creationTimestamp text may
+class.metadata generation number may
+class spec object need
+class.spec controllerName text need
+class.spec parametersRef any may
+gateway.metadata namespace text may
+gateway spec object need
+gateway.spec gatewayClassName text need
+gateway.spec listeners list need
+listeners [0] object item
+listener name text need
+listener hostname text may
+listener port number need
+listener protocol text need
+listener allowedRoutes object may
+routes namespaces object may
+same from text may
+same selector any may
+selected selector object may
+selector matchLabels object may
+matchLabels k text item
+selector matchExpressions list may
+expressions [0] object item
+expression key text need
+expression operator text need
+expression values list may
+values [1] text item
+routes kinds list may
+kinds [0] object item
+kind group text may
+kind kind text need
+gateway.spec addresses list may
+addresses [0] object item
+address type text may
+address value text may
+grant spec object need
+grant.spec from list need
+grant.from [0] object item
+from group text need
+from kind text need
+from namespace text need
+grant.spec to list need
+grant.to [0] object item
+to group text need
+to kind text need
+to name text may
+namespace.metadata labels object may
+labels k text item
+service spec object need
+service.spec type text may
+service.spec ports list may
+ports [0] object item
+port name text may
+port port number need
+port protocol text may
+port appProtocol text may
+slice.metadata labels object may
+slice addressType text need
+slice ports list may
+slice.ports [0] object item
+slice.port name text may
+slice.port port number may
+slice.port protocol text may
+slice endpoints list may
+endpoints [0] object item
+endpoint addresses list need
+ipv4 [0] text item
+ipv6 [0] any may
+endpoint conditions object may
+conditions ready truth may
+";
 
-// A field must be there, may be absent, or is an item, for which null is another type.
-#[derive(Clone, Copy, PartialEq, Eq)]
-enum Presence {
-    Need,
-    May,
-    Item,
-}
+// Values by their types; a number that isn't whole has none that a field may have.
+const SAMPLES: &[u8] = b"
+null null
+fraction 7.0
+fraction 7e0
+truth true
+number 7
+text \"s\"
+list []
+object {}
+";
 
-const SAMPLES: [(&[u8], Sort); 8] = [
-    (b"null", Sort::Null),
-    (b"7.0", Sort::Fraction),
-    (b"7e0", Sort::Fraction),
-    (b"true", Sort::Truth),
-    (b"7", Sort::Number),
-    (b"\"s\"", Sort::Text),
-    (b"[]", Sort::List),
-    (b"{}", Sort::Object),
-];
-
-// A kind, an object with `$` for a field's value, the field's path, its type, and whether it must be there.
-const FIELDS: [(u8, &[u8], &[u8], Sort, Presence); 73] = [
-    (
-        b'C',
-        br#"{"metadata":$,"spec":{"controllerName":"c"}}"#,
-        b"metadata",
-        Sort::Object,
-        Presence::Need,
-    ),
-    (
-        b'C',
-        br#"{"metadata":{"name":$,"uid":"u"},"spec":{"controllerName":"c"}}"#,
-        b"metadata.name",
-        Sort::Text,
-        Presence::Need,
-    ),
-    (
-        b'C',
-        br#"{"metadata":{"name":"c","namespace":$},"spec":{"controllerName":"c"}}"#,
-        b"",
-        Sort::Any,
-        Presence::May,
-    ),
-    (
-        b'C',
-        br#"{"metadata":{"name":"c","creationTimestamp":$},"spec":{"controllerName":"c"}}"#,
-        b"metadata.creationTimestamp",
-        Sort::Text,
-        Presence::May,
-    ),
-    (
-        b'C',
-        br#"{"metadata":{"name":"c","generation":$},"spec":{"controllerName":"c"}}"#,
-        b"metadata.generation",
-        Sort::Number,
-        Presence::May,
-    ),
-    (
-        b'C',
-        br#"{"metadata":{"name":"c"},"spec":$,"status":7}"#,
-        b"spec",
-        Sort::Object,
-        Presence::Need,
-    ),
-    (
-        b'C',
-        br#"{"metadata":{"name":"c"},"spec":{"controllerName":$,"x":7}}"#,
-        b"spec.controllerName",
-        Sort::Text,
-        Presence::Need,
-    ),
-    (
-        b'C',
-        br#"{"metadata":{"name":"c","labels":7},"spec":{"controllerName":"c","parametersRef":$}}"#,
-        b"",
-        Sort::Any,
-        Presence::May,
-    ),
-    (
-        b'G',
-        br#"{"metadata":{"name":"g","namespace":$},"spec":{"gatewayClassName":"c","listeners":[{"name":"l","port":80,"protocol":"HTTP"}]}}"#,
-        b"metadata.namespace",
-        Sort::Text,
-        Presence::May,
-    ),
-    (
-        b'G',
-        br#"{"metadata":{"name":"g"},"spec":$}"#,
-        b"spec",
-        Sort::Object,
-        Presence::Need,
-    ),
-    (
-        b'G',
-        br#"{"metadata":{"name":"g"},"spec":{"gatewayClassName":$,"listeners":[{"name":"l","port":80,"protocol":"HTTP"}]}}"#,
-        b"spec.gatewayClassName",
-        Sort::Text,
-        Presence::Need,
-    ),
-    (
-        b'G',
-        br#"{"metadata":{"name":"g"},"spec":{"gatewayClassName":"c","listeners":$,"x":7}}"#,
-        b"spec.listeners",
-        Sort::List,
-        Presence::Need,
-    ),
-    (
-        b'G',
-        br#"{"metadata":{"name":"g"},"spec":{"gatewayClassName":"c","listeners":[$]}}"#,
-        b"spec.listeners[0]",
-        Sort::Object,
-        Presence::Item,
-    ),
-    (
-        b'G',
-        br#"{"metadata":{"name":"g"},"spec":{"gatewayClassName":"c","listeners":[{"name":$,"port":80,"protocol":"HTTP","x":7}]}}"#,
-        b"spec.listeners[0].name",
-        Sort::Text,
-        Presence::Need,
-    ),
-    (
-        b'G',
-        br#"{"metadata":{"name":"g"},"spec":{"gatewayClassName":"c","listeners":[{"name":"l","hostname":$,"port":80,"protocol":"HTTP"}]}}"#,
-        b"spec.listeners[0].hostname",
-        Sort::Text,
-        Presence::May,
-    ),
-    (
-        b'G',
-        br#"{"metadata":{"name":"g"},"spec":{"gatewayClassName":"c","listeners":[{"name":"l","port":$,"protocol":"HTTP"}]}}"#,
-        b"spec.listeners[0].port",
-        Sort::Number,
-        Presence::Need,
-    ),
-    (
-        b'G',
-        br#"{"metadata":{"name":"g"},"spec":{"gatewayClassName":"c","listeners":[{"name":"l","port":80,"protocol":$}]}}"#,
-        b"spec.listeners[0].protocol",
-        Sort::Text,
-        Presence::Need,
-    ),
-    (
-        b'G',
-        br#"{"metadata":{"name":"g"},"spec":{"gatewayClassName":"c","listeners":[{"name":"l","port":80,"protocol":"HTTP","allowedRoutes":$}]}}"#,
-        b"spec.listeners[0].allowedRoutes",
-        Sort::Object,
-        Presence::May,
-    ),
-    (
-        b'G',
-        br#"{"metadata":{"name":"g"},"spec":{"gatewayClassName":"c","listeners":[{"name":"l","port":80,"protocol":"HTTP","allowedRoutes":{"namespaces":$}}]}}"#,
-        b"spec.listeners[0].allowedRoutes.namespaces",
-        Sort::Object,
-        Presence::May,
-    ),
-    (
-        b'G',
-        br#"{"metadata":{"name":"g"},"spec":{"gatewayClassName":"c","listeners":[{"name":"l","port":80,"protocol":"HTTP","allowedRoutes":{"namespaces":{"from":$}}}]}}"#,
-        b"spec.listeners[0].allowedRoutes.namespaces.from",
-        Sort::Text,
-        Presence::May,
-    ),
-    (
-        b'G',
-        br#"{"metadata":{"name":"g"},"spec":{"gatewayClassName":"c","listeners":[{"name":"l","port":80,"protocol":"HTTP","allowedRoutes":{"namespaces":{"from":"Same","selector":$}}}]}}"#,
-        b"",
-        Sort::Any,
-        Presence::May,
-    ),
-    (
-        b'G',
-        br#"{"metadata":{"name":"g"},"spec":{"gatewayClassName":"c","listeners":[{"name":"l","port":80,"protocol":"HTTP","allowedRoutes":{"namespaces":{"from":"Selector","selector":$}}}]}}"#,
-        b"spec.listeners[0].allowedRoutes.namespaces.selector",
-        Sort::Object,
-        Presence::May,
-    ),
-    (
-        b'G',
-        br#"{"metadata":{"name":"g"},"spec":{"gatewayClassName":"c","listeners":[{"name":"l","port":80,"protocol":"HTTP","allowedRoutes":{"namespaces":{"from":"Selector","selector":{"matchLabels":$}}}}]}}"#,
-        b"spec.listeners[0].allowedRoutes.namespaces.selector.matchLabels",
-        Sort::Object,
-        Presence::May,
-    ),
-    (
-        b'G',
-        br#"{"metadata":{"name":"g"},"spec":{"gatewayClassName":"c","listeners":[{"name":"l","port":80,"protocol":"HTTP","allowedRoutes":{"namespaces":{"from":"Selector","selector":{"matchLabels":{"k":$}}}}}]}}"#,
-        b"spec.listeners[0].allowedRoutes.namespaces.selector.matchLabels.k",
-        Sort::Text,
-        Presence::Item,
-    ),
-    (
-        b'G',
-        br#"{"metadata":{"name":"g"},"spec":{"gatewayClassName":"c","listeners":[{"name":"l","port":80,"protocol":"HTTP","allowedRoutes":{"namespaces":{"from":"Selector","selector":{"matchExpressions":$}}}}]}}"#,
-        b"spec.listeners[0].allowedRoutes.namespaces.selector.matchExpressions",
-        Sort::List,
-        Presence::May,
-    ),
-    (
-        b'G',
-        br#"{"metadata":{"name":"g"},"spec":{"gatewayClassName":"c","listeners":[{"name":"l","port":80,"protocol":"HTTP","allowedRoutes":{"namespaces":{"from":"Selector","selector":{"matchExpressions":[$]}}}}]}}"#,
-        b"spec.listeners[0].allowedRoutes.namespaces.selector.matchExpressions[0]",
-        Sort::Object,
-        Presence::Item,
-    ),
-    (
-        b'G',
-        br#"{"metadata":{"name":"g"},"spec":{"gatewayClassName":"c","listeners":[{"name":"l","port":80,"protocol":"HTTP","allowedRoutes":{"namespaces":{"from":"Selector","selector":{"matchExpressions":[{"key":$,"operator":"Exists"}]}}}}]}}"#,
-        b"spec.listeners[0].allowedRoutes.namespaces.selector.matchExpressions[0].key",
-        Sort::Text,
-        Presence::Need,
-    ),
-    (
-        b'G',
-        br#"{"metadata":{"name":"g"},"spec":{"gatewayClassName":"c","listeners":[{"name":"l","port":80,"protocol":"HTTP","allowedRoutes":{"namespaces":{"from":"Selector","selector":{"matchExpressions":[{"key":"k","operator":$}]}}}}]}}"#,
-        b"spec.listeners[0].allowedRoutes.namespaces.selector.matchExpressions[0].operator",
-        Sort::Text,
-        Presence::Need,
-    ),
-    (
-        b'G',
-        br#"{"metadata":{"name":"g"},"spec":{"gatewayClassName":"c","listeners":[{"name":"l","port":80,"protocol":"HTTP","allowedRoutes":{"namespaces":{"from":"Selector","selector":{"matchExpressions":[{"key":"k","operator":"In","values":$}]}}}}]}}"#,
-        b"spec.listeners[0].allowedRoutes.namespaces.selector.matchExpressions[0].values",
-        Sort::List,
-        Presence::May,
-    ),
-    (
-        b'G',
-        br#"{"metadata":{"name":"g"},"spec":{"gatewayClassName":"c","listeners":[{"name":"l","port":80,"protocol":"HTTP","allowedRoutes":{"namespaces":{"from":"Selector","selector":{"matchExpressions":[{"key":"k","operator":"In","values":["v",$]}]}}}}]}}"#,
-        b"spec.listeners[0].allowedRoutes.namespaces.selector.matchExpressions[0].values[1]",
-        Sort::Text,
-        Presence::Item,
-    ),
-    (
-        b'G',
-        br#"{"metadata":{"name":"g"},"spec":{"gatewayClassName":"c","listeners":[{"name":"l","port":80,"protocol":"HTTP","allowedRoutes":{"kinds":$}}]}}"#,
-        b"spec.listeners[0].allowedRoutes.kinds",
-        Sort::List,
-        Presence::May,
-    ),
-    (
-        b'G',
-        br#"{"metadata":{"name":"g"},"spec":{"gatewayClassName":"c","listeners":[{"name":"l","port":80,"protocol":"HTTP","allowedRoutes":{"kinds":[{"group":$,"kind":"k"}]}}]}}"#,
-        b"spec.listeners[0].allowedRoutes.kinds[0].group",
-        Sort::Text,
-        Presence::May,
-    ),
-    (
-        b'G',
-        br#"{"metadata":{"name":"g"},"spec":{"gatewayClassName":"c","listeners":[{"name":"l","port":80,"protocol":"HTTP","allowedRoutes":{"kinds":[{"kind":$,"x":7}]}}]}}"#,
-        b"spec.listeners[0].allowedRoutes.kinds[0].kind",
-        Sort::Text,
-        Presence::Need,
-    ),
-    (
-        b'G',
-        br#"{"metadata":{"name":"g"},"spec":{"gatewayClassName":"c","listeners":[{"name":"l","port":80,"protocol":"HTTP"}],"addresses":$}}"#,
-        b"spec.addresses",
-        Sort::List,
-        Presence::May,
-    ),
-    (
-        b'G',
-        br#"{"metadata":{"name":"g"},"spec":{"gatewayClassName":"c","listeners":[{"name":"l","port":80,"protocol":"HTTP"}],"addresses":[{"type":$,"x":7}]}}"#,
-        b"spec.addresses[0].type",
-        Sort::Text,
-        Presence::May,
-    ),
-    (
-        b'G',
-        br#"{"metadata":{"name":"g"},"spec":{"gatewayClassName":"c","listeners":[{"name":"l","port":80,"protocol":"HTTP"}],"addresses":[{"value":$}]}}"#,
-        b"spec.addresses[0].value",
-        Sort::Text,
-        Presence::May,
-    ),
-    (
-        b'R',
-        br#"{"metadata":{"name":"r"},"spec":$}"#,
-        b"spec",
-        Sort::Object,
-        Presence::Need,
-    ),
-    (
-        b'R',
-        br#"{"metadata":{"name":"r"},"spec":{"from":$,"to":[],"x":7}}"#,
-        b"spec.from",
-        Sort::List,
-        Presence::Need,
-    ),
-    (
-        b'R',
-        br#"{"metadata":{"name":"r"},"spec":{"from":[{"group":$,"kind":"k","namespace":"n","x":7}],"to":[]}}"#,
-        b"spec.from[0].group",
-        Sort::Text,
-        Presence::Need,
-    ),
-    (
-        b'R',
-        br#"{"metadata":{"name":"r"},"spec":{"from":[{"group":"g","kind":$,"namespace":"n"}],"to":[]}}"#,
-        b"spec.from[0].kind",
-        Sort::Text,
-        Presence::Need,
-    ),
-    (
-        b'R',
-        br#"{"metadata":{"name":"r"},"spec":{"from":[{"group":"g","kind":"k","namespace":$}],"to":[]}}"#,
-        b"spec.from[0].namespace",
-        Sort::Text,
-        Presence::Need,
-    ),
-    (
-        b'R',
-        br#"{"metadata":{"name":"r"},"spec":{"from":[],"to":$}}"#,
-        b"spec.to",
-        Sort::List,
-        Presence::Need,
-    ),
-    (
-        b'R',
-        br#"{"metadata":{"name":"r"},"spec":{"from":[],"to":[{"group":"","kind":$}]}}"#,
-        b"spec.to[0].kind",
-        Sort::Text,
-        Presence::Need,
-    ),
-    (
-        b'R',
-        br#"{"metadata":{"name":"r"},"spec":{"from":[],"to":[{"group":"","kind":"k","name":$}]}}"#,
-        b"spec.to[0].name",
-        Sort::Text,
-        Presence::May,
-    ),
-    (
-        b'N',
-        br#"{"metadata":{"name":"n","labels":$},"spec":7}"#,
-        b"metadata.labels",
-        Sort::Object,
-        Presence::May,
-    ),
-    (
-        b'N',
-        br#"{"metadata":{"name":"n","labels":{"a":"b","k":$}}}"#,
-        b"metadata.labels.k",
-        Sort::Text,
-        Presence::Item,
-    ),
-    (
-        b'S',
-        br#"{"metadata":{"name":"s"},"spec":$}"#,
-        b"spec",
-        Sort::Object,
-        Presence::Need,
-    ),
-    (
-        b'S',
-        br#"{"metadata":{"name":"s"},"spec":{"type":$,"x":7}}"#,
-        b"spec.type",
-        Sort::Text,
-        Presence::May,
-    ),
-    (
-        b'S',
-        br#"{"metadata":{"name":"s"},"spec":{"ports":$}}"#,
-        b"spec.ports",
-        Sort::List,
-        Presence::May,
-    ),
-    (
-        b'S',
-        br#"{"metadata":{"name":"s"},"spec":{"ports":[{"name":$,"port":80,"x":7}]}}"#,
-        b"spec.ports[0].name",
-        Sort::Text,
-        Presence::May,
-    ),
-    (
-        b'S',
-        br#"{"metadata":{"name":"s"},"spec":{"ports":[{"port":80},{"port":$}]}}"#,
-        b"spec.ports[1].port",
-        Sort::Number,
-        Presence::Need,
-    ),
-    (
-        b'S',
-        br#"{"metadata":{"name":"s"},"spec":{"ports":[{"port":80,"protocol":"UDP","appProtocol":$}]}}"#,
-        b"spec.ports[0].appProtocol",
-        Sort::Text,
-        Presence::May,
-    ),
-    (
-        b'E',
-        br#"{"metadata":{"name":"s"},"addressType":$,"spec":7}"#,
-        b"addressType",
-        Sort::Text,
-        Presence::Need,
-    ),
-    (
-        b'E',
-        br#"{"metadata":{"name":"s"},"addressType":"IPv4","ports":[{"port":$}]}"#,
-        b"ports[0].port",
-        Sort::Number,
-        Presence::May,
-    ),
-    (
-        b'E',
-        br#"{"metadata":{"name":"s"},"addressType":"IPv4","endpoints":[{"addresses":$}]}"#,
-        b"endpoints[0].addresses",
-        Sort::List,
-        Presence::Need,
-    ),
-    (
-        b'E',
-        br#"{"metadata":{"name":"s"},"addressType":"IPv6","endpoints":[{"addresses":[$]}]}"#,
-        b"",
-        Sort::Any,
-        Presence::May,
-    ),
-    (
-        b'E',
-        br#"{"metadata":{"name":"s"},"addressType":"IPv6","endpoints":[{"addresses":[],"conditions":{"ready":$}}]}"#,
-        b"endpoints[0].conditions.ready",
-        Sort::Truth,
-        Presence::May,
-    ),
-    (
-        b'G',
-        br#"{"metadata":{"name":"g"},"spec":{"gatewayClassName":"c","listeners":[{"name":"l","port":80,"protocol":"HTTP","allowedRoutes":{"kinds":[$]}}]}}"#,
-        b"spec.listeners[0].allowedRoutes.kinds[0]",
-        Sort::Object,
-        Presence::Item,
-    ),
-    (
-        b'G',
-        br#"{"metadata":{"name":"g"},"spec":{"gatewayClassName":"c","listeners":[{"name":"l","port":80,"protocol":"HTTP"}],"addresses":[$]}}"#,
-        b"spec.addresses[0]",
-        Sort::Object,
-        Presence::Item,
-    ),
-    (
-        b'R',
-        br#"{"metadata":{"name":"r"},"spec":{"from":[$],"to":[]}}"#,
-        b"spec.from[0]",
-        Sort::Object,
-        Presence::Item,
-    ),
-    (
-        b'R',
-        br#"{"metadata":{"name":"r"},"spec":{"from":[],"to":[$]}}"#,
-        b"spec.to[0]",
-        Sort::Object,
-        Presence::Item,
-    ),
-    (
-        b'R',
-        br#"{"metadata":{"name":"r"},"spec":{"from":[],"to":[{"group":$,"kind":"k","x":7}]}}"#,
-        b"spec.to[0].group",
-        Sort::Text,
-        Presence::Need,
-    ),
-    (
-        b'S',
-        br#"{"metadata":{"name":"s"},"spec":{"ports":[$]}}"#,
-        b"spec.ports[0]",
-        Sort::Object,
-        Presence::Item,
-    ),
-    (
-        b'S',
-        br#"{"metadata":{"name":"s"},"spec":{"ports":[{"port":80,"protocol":$}]}}"#,
-        b"spec.ports[0].protocol",
-        Sort::Text,
-        Presence::May,
-    ),
-    (
-        b'E',
-        br#"{"metadata":{"name":"s","labels":$},"addressType":"IPv4"}"#,
-        b"metadata.labels",
-        Sort::Object,
-        Presence::May,
-    ),
-    (
-        b'E',
-        br#"{"metadata":{"name":"s"},"addressType":"IPv4","ports":$}"#,
-        b"ports",
-        Sort::List,
-        Presence::May,
-    ),
-    (
-        b'E',
-        br#"{"metadata":{"name":"s"},"addressType":"IPv4","ports":[$]}"#,
-        b"ports[0]",
-        Sort::Object,
-        Presence::Item,
-    ),
-    (
-        b'E',
-        br#"{"metadata":{"name":"s"},"addressType":"IPv4","ports":[{"name":$,"x":7}]}"#,
-        b"ports[0].name",
-        Sort::Text,
-        Presence::May,
-    ),
-    (
-        b'E',
-        br#"{"metadata":{"name":"s"},"addressType":"IPv4","ports":[{"protocol":$}]}"#,
-        b"ports[0].protocol",
-        Sort::Text,
-        Presence::May,
-    ),
-    (
-        b'E',
-        br#"{"metadata":{"name":"s"},"addressType":"IPv4","endpoints":$}"#,
-        b"endpoints",
-        Sort::List,
-        Presence::May,
-    ),
-    (
-        b'E',
-        br#"{"metadata":{"name":"s"},"addressType":"IPv4","endpoints":[$]}"#,
-        b"endpoints[0]",
-        Sort::Object,
-        Presence::Item,
-    ),
-    (
-        b'E',
-        br#"{"metadata":{"name":"s"},"addressType":"IPv4","endpoints":[{"addresses":[$,7]}]}"#,
-        b"endpoints[0].addresses[0]",
-        Sort::Text,
-        Presence::Item,
-    ),
-    (
-        b'E',
-        br#"{"metadata":{"name":"s"},"addressType":"IPv6","endpoints":[{"addresses":[],"conditions":$,"x":7}]}"#,
-        b"endpoints[0].conditions",
-        Sort::Object,
-        Presence::May,
-    ),
-];
-
-// The number of the refusal, from the rules alone; 0 where the value is taken, or its form decides.
-fn expected(found: Sort, wanted: Sort, presence: Presence) -> u8 {
-    if wanted == Sort::Any || found == wanted {
-        return 0;
+// The number of the refusal, from the rules alone; none where the value is taken, or its form decides.
+fn expected(found: &[u8], wanted: &[u8], presence: &[u8]) -> Option<&'static [u8]> {
+    if wanted == b"any".as_slice() || found == wanted {
+        return None;
     }
-    match (found, presence) {
-        (Sort::Null, Presence::Need) => 3,
-        (Sort::Null, Presence::May) => 0,
-        _ => 4,
+    if found != b"null".as_slice() || presence == b"item".as_slice() {
+        return Some(b"4");
+    }
+    if presence == b"need".as_slice() {
+        Some(b"3")
+    } else {
+        None
     }
 }
 
-fn filled(rt: &HostRuntime, frame: &[u8], sample: &[u8]) -> Result<Vec<u8>, Fail> {
-    let mut text = Vec::new(rt.alloc());
-    for byte in frame {
-        if *byte == b'$' {
-            text.extend_from_slice(sample)?;
-        } else {
-            text.push(*byte)?;
-        }
+// A member of that name with this value; an item has no name.
+fn member(alloc: Global, field: &[u8], value: &[u8]) -> Result<Vec<u8>, AllocError> {
+    let mut text = Vec::new(alloc);
+    if !field.starts_with(b"[") {
+        text.push(b'"')?;
+        text.extend_from_slice(field)?;
+        text.extend_from_slice(b"\":")?;
     }
+    text.extend_from_slice(value)?;
     Ok(text)
 }
 
-fn refusal(rt: &HostRuntime, number: u8, path: &[u8]) -> Result<Vec<u8>, Fail> {
-    let mut text = Vec::new(rt.alloc());
-    text.push(if number == 3 { b'3' } else { b'4' })?;
-    text.push(b' ')?;
-    text.extend_from_slice(path)?;
-    Ok(text)
+// The words of a row, empty where it has fewer.
+fn words(row: &[u8]) -> [&[u8]; 4] {
+    let mut words = row.split(|b| *b == b' ');
+    let first = words.next().unwrap_or(b"");
+    let second = words.next().unwrap_or(b"");
+    let third = words.next().unwrap_or(b"");
+    [first, second, third, words.next().unwrap_or(b"")]
+}
+
+// The value is answered as the rules say.
+fn meets(alloc: Global, row: &[u8], sample: &[u8]) -> Result<bool, Fail> {
+    let [name, field, wanted, presence] = words(row);
+    let [found, value, _, _] = words(sample);
+    let Some(place) = place_named(name) else {
+        return Ok(false);
+    };
+    let member = member(alloc, field, value)?;
+    let text = filled(alloc, &place, member.as_slice())?;
+    let told = answer(alloc, place.kind, text.as_slice())?;
+    match expected(found, wanted, presence) {
+        None => Ok(found == wanted || told.as_str() == "ok"),
+        Some(number) => Ok(told.as_bytes() == refusal_at(alloc, &place, number, field)?.as_slice()),
+    }
 }
 
 #[test]
 fn values_of_each_type(rt: HostRuntime) -> Result<(), Fail> {
-    for (row, (kind, frame, path, wanted, presence)) in FIELDS.iter().enumerate() {
-        for (sample, found) in SAMPLES {
-            let answer = answer(&rt, *kind, filled(&rt, frame, sample)?.as_slice())?;
-            match expected(found, *wanted, *presence) {
-                0 => assert!(rt;
-                    found == *wanted || answer.as_str() == "ok",
-                    "row {row}: {answer}"
-                ),
-                number => assert!(rt;
-                    answer.as_bytes() == refusal(&rt, number, path)?.as_slice(),
-                    "row {row}: {answer}"
-                ),
-            }
+    for row in FIELDS.trim_ascii().split(|b| *b == b'\n') {
+        for sample in SAMPLES.trim_ascii().split(|b| *b == b'\n') {
+            assert!(rt; meets(rt.alloc(), row, sample)?, "{row:?} {sample:?}");
         }
     }
     Ok(())

@@ -3,39 +3,22 @@ use crate::{parse_ipv4, read_meta, read_namespace, read_slice};
 use gw_json::{Cursor, read_value};
 use std::test::Fail;
 
-// Objects as an API server writes them.
-const OBJECTS: [(u8, &[u8]); 6] = [
-    (
-        b'C',
-        br#"{"apiVersion":"gateway.networking.k8s.io/v1","kind":"GatewayClass","metadata":{"annotations":{"a/b":"c"},"creationTimestamp":"2024-05-01T10:00:00Z","finalizers":["gateway-exists-finalizer.gateway.networking.k8s.io"],"generation":3,"managedFields":[{"apiVersion":"gateway.networking.k8s.io/v1","fieldsType":"FieldsV1","fieldsV1":{"f:spec":{}},"manager":"kubectl","operation":"Update"}],"name":"c","resourceVersion":"912","uid":"0b7e"},"spec":{"controllerName":"gateward.example/controller","parametersRef":{"group":"g","kind":"k","name":"n"}},"status":{"conditions":[]}}"#,
-    ),
-    (
-        b'G',
-        br#"{"apiVersion":"gateway.networking.k8s.io/v1","kind":"Gateway","metadata":{"creationTimestamp":null,"managedFields":[{"manager":"kubectl"}],"name":"g","namespace":"shop","uid":"1"},"spec":{"addresses":[{"value":"127.0.0.1"},{"type":"Hostname"}],"gatewayClassName":"c","infrastructure":{},"listeners":[{"allowedRoutes":{"kinds":[{"group":"gateway.networking.k8s.io","kind":"HTTPRoute"}],"namespaces":{"from":"Selector","selector":{"matchExpressions":[{"key":"tier","operator":"NotIn","values":["b","a","b"]}],"matchLabels":{"team":"shop"}}}},"hostname":"*.example.com","name":"http","port":80,"protocol":"HTTP"},{"name":"other","port":8080,"protocol":"TCP","tls":null}]},"status":{"addresses":[],"listeners":[]}}"#,
-    ),
-    (
-        b'R',
-        br#"{"apiVersion":"gateway.networking.k8s.io/v1beta1","kind":"ReferenceGrant","metadata":{"generation":1,"managedFields":[],"name":"r","namespace":"b"},"spec":{"from":[{"group":"gateway.networking.k8s.io","kind":"HTTPRoute","namespace":"a"}],"to":[{"group":"","kind":"Service"},{"group":"","kind":"Service","name":"s"}]}}"#,
-    ),
-    (
-        b'N',
-        br#"{"apiVersion":"v1","kind":"Namespace","metadata":{"finalizers":[],"labels":{"kubernetes.io/metadata.name":"other","team":"shop"},"managedFields":[],"name":"shop"},"spec":{"finalizers":["kubernetes"]},"status":{"phase":"Active"}}"#,
-    ),
-    (
-        b'S',
-        br#"{"apiVersion":"v1","kind":"Service","metadata":{"annotations":{},"labels":{"app":"s"},"managedFields":[],"name":"s"},"spec":{"clusterIP":"10.96.0.1","clusterIPs":["10.96.0.1"],"ports":[{"appProtocol":"kubernetes.io/h2c","name":"web","nodePort":30000,"port":80,"protocol":"TCP","targetPort":"http"},{"port":53,"protocol":"UDP","targetPort":53}],"selector":{"app":"s"},"sessionAffinity":"None","type":"ExternalName"},"status":{"loadBalancer":{}}}"#,
-    ),
-    (
-        b'E',
-        br#"{"addressType":"IPv4","apiVersion":"discovery.k8s.io/v1","endpoints":[{"addresses":["10.0.0.1","x"],"conditions":{"ready":false,"serving":false},"nodeName":"n","targetRef":{"kind":"Pod"}},{"addresses":["10.0.0.2"],"conditions":{"ready":null}},{"addresses":["10.0.0.3"]}],"kind":"EndpointSlice","metadata":{"generateName":"s-","labels":{"kubernetes.io/service-name":"s"},"managedFields":[],"name":"s-1","ownerReferences":[]},"ports":[{"appProtocol":null,"name":"","port":8080,"protocol":"TCP"},{"name":"m"}]}"#,
-    ),
-];
+// The letter of a kind, and an object of it as an API server writes it.
+const OBJECTS: &[u8] = br#"
+C {"apiVersion":"gateway.networking.k8s.io/v1","kind":"GatewayClass","metadata":{"annotations":{"a/b":"c"},"creationTimestamp":"2024-05-01T10:00:00Z","finalizers":["gateway-exists-finalizer.gateway.networking.k8s.io"],"generation":3,"managedFields":[{"apiVersion":"gateway.networking.k8s.io/v1","fieldsType":"FieldsV1","fieldsV1":{"f:spec":{}},"manager":"kubectl","operation":"Update"}],"name":"c","resourceVersion":"912","uid":"0b7e"},"spec":{"controllerName":"gateward.example/controller","parametersRef":{"group":"g","kind":"k","name":"n"}},"status":{"conditions":[]}}
+G {"apiVersion":"gateway.networking.k8s.io/v1","kind":"Gateway","metadata":{"creationTimestamp":null,"managedFields":[{"manager":"kubectl"}],"name":"g","namespace":"shop","uid":"1"},"spec":{"addresses":[{"value":"127.0.0.1"},{"type":"Hostname"}],"gatewayClassName":"c","infrastructure":{},"listeners":[{"allowedRoutes":{"kinds":[{"group":"gateway.networking.k8s.io","kind":"HTTPRoute"}],"namespaces":{"from":"Selector","selector":{"matchExpressions":[{"key":"tier","operator":"NotIn","values":["b","a","b"]}],"matchLabels":{"team":"shop"}}}},"hostname":"*.example.com","name":"http","port":80,"protocol":"HTTP"},{"name":"other","port":8080,"protocol":"TCP","tls":null}]},"status":{"addresses":[],"listeners":[]}}
+R {"apiVersion":"gateway.networking.k8s.io/v1beta1","kind":"ReferenceGrant","metadata":{"generation":1,"managedFields":[],"name":"r","namespace":"b"},"spec":{"from":[{"group":"gateway.networking.k8s.io","kind":"HTTPRoute","namespace":"a"}],"to":[{"group":"","kind":"Service"},{"group":"","kind":"Service","name":"s"}]}}
+N {"apiVersion":"v1","kind":"Namespace","metadata":{"finalizers":[],"labels":{"kubernetes.io/metadata.name":"other","team":"shop"},"managedFields":[],"name":"shop"},"spec":{"finalizers":["kubernetes"]},"status":{"phase":"Active"}}
+S {"apiVersion":"v1","kind":"Service","metadata":{"annotations":{},"labels":{"app":"s"},"managedFields":[],"name":"s"},"spec":{"clusterIP":"10.96.0.1","clusterIPs":["10.96.0.1"],"ports":[{"appProtocol":"kubernetes.io/h2c","name":"web","nodePort":30000,"port":80,"protocol":"TCP","targetPort":"http"},{"port":53,"protocol":"UDP","targetPort":53}],"selector":{"app":"s"},"sessionAffinity":"None","type":"ExternalName"},"status":{"loadBalancer":{}}}
+E {"addressType":"IPv4","apiVersion":"discovery.k8s.io/v1","endpoints":[{"addresses":["10.0.0.1","x"],"conditions":{"ready":false,"serving":false},"nodeName":"n","targetRef":{"kind":"Pod"}},{"addresses":["10.0.0.2"],"conditions":{"ready":null}},{"addresses":["10.0.0.3"]}],"kind":"EndpointSlice","metadata":{"generateName":"s-","labels":{"kubernetes.io/service-name":"s"},"managedFields":[],"name":"s-1","ownerReferences":[]},"ports":[{"appProtocol":null,"name":"","port":8080,"protocol":"TCP"},{"name":"m"}]}
+"#;
 
 #[test]
 fn objects_of_an_api_server(rt: HostRuntime) -> Result<(), Fail> {
-    for (row, (kind, object)) in OBJECTS.iter().enumerate() {
-        let answer = answer(&rt, *kind, object)?;
-        assert!(rt; answer.as_str() == "ok", "row {row}: {answer}");
+    for row in OBJECTS.trim_ascii().split(|b| *b == b'\n') {
+        let kind = row.first().copied().unwrap_or(b'-');
+        let told = answer(rt.alloc(), kind, row.get(2..).unwrap_or(b""))?;
+        assert!(rt; told.as_str() == "ok", "{row:?}");
     }
     Ok(())
 }
