@@ -1,1 +1,6 @@
+pub mod Events
+pub mod Kinds
+pub mod Seen
+pub mod SeenEvents
+pub mod Stores
 pub mod Table

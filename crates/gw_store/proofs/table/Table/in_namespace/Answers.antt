@@ -16,9 +16,9 @@ returns g c =
     let i = c.partition_point-first.result in
     let order : IsInKeyOrder key xs = rw c.as_slice-objects.ensures.value c.self.invariant.ordered in
     let first : IsPartitionPoint (λ y. before key p y ≡ true) (λ y. before key p y ≡ false) xs i =
-        IsPartitionPoint-from_clause (before key p) xs i c.partition_point-first.ensures.partitioned (parted (before key p) xs (before_falls key p xs order)) (λ a r q k. search rules) in
+    IsPartitionPoint-from_clause (before key p) xs i c.partition_point-first.ensures.partitioned (parted (before key p) xs (before_falls key p xs order)) (λ a r q k. search rules) in
     let rest = drop i xs in
     let second : IsPartitionPoint (λ y. within key p y ≡ true) (λ y. within key p y ≡ false) rest c.partition_point-count.result =
-        IsPartitionPoint-from_clause (within key p) rest c.partition_point-count.result (rw take_rest at c.partition_point-count.ensures.partitioned) (parted (within key p) rest (within_falls key p rest (ordered_drop key p xs i order) (high_drop key p xs i first.1))) (λ a r q k. search rules) in
+    IsPartitionPoint-from_clause (within key p) rest c.partition_point-count.result (rw take_rest at c.partition_point-count.ensures.partitioned) (parted (within key p) rest (within_falls key p rest (ordered_drop key p xs i order) (high_drop key p xs i first.1))) (λ a r q k. search rules) in
     rw (take_rest, ← c.self.view_is) (between key p xs i _ c.partition_point-first.ensures.bound (rw take_rest at c.partition_point-count.ensures.bound) first second
     ∙ ap (λ objects. filter (within key p) objects) (c.as_slice-objects.ensures.value ∙ objects-held _ _ c.self.invariant.alike))

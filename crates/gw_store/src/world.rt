@@ -1,0 +1,296 @@
+ghost use Rattle.std.specs.Prelude.{◌≡◌, ◌↔◌, ◌<◌, false, nat_le, IsOk, IfErr, OnOk, option_copied};
+ghost use Rattle.gw_text.specs.model.Names.{joined};
+ghost use Rattle.gw_text.specs.model.Held.{objects_of, object_of};
+ghost use Rattle.gw_text.specs.model.World as worlds;
+ghost use Rattle.gw_store.specs.Seen.{seen_kind};
+ghost use Rattle.gw_store.specs.SeenEvents.{seen_object, seen_event};
+
+use crate::event::{Event, Object};
+use crate::kind::Kind;
+use crate::table::Table;
+use gw_json::Refusal;
+use gw_objects::{EndpointSlice, Gateway, GatewayClass, Namespace, ReferenceGrant, Service};
+use gw_route::HttpRoute;
+use gw_text::{Key, NoMemory, Second, Text};
+use std::alloc::Global;
+use std::marker::Model;
+
+/// The most objects that are held.
+pub const MOST_OBJECTS: usize = 65_536;
+
+/// The most HTTPRoutes of them.
+pub const MOST_ROUTES: usize = 16_384;
+
+/// The objects that are held, kind by kind, and the number of the changes that led here.
+#[derive(Drop)]
+pub struct World {
+    classes: Table<GatewayClass>,
+    gateways: Table<Gateway>,
+    routes: Table<HttpRoute>,
+    grants: Table<ReferenceGrant>,
+    namespaces: Table<Namespace>,
+    services: Table<Service>,
+    slices: Table<EndpointSlice>,
+    changes: u64,
+}
+
+impl Model for World {
+    ghost use Rattle.std.specs.Prelude.{min};
+    ghost use Rattle.gw_store.specs.Stores.{Store};
+
+    ghost Value = { Store };
+
+    ghost view = { λ w. record {
+      world = record {
+        classes = w.classes.held;
+        gateways = w.gateways.held;
+        routes = w.routes.held;
+        grants = w.grants.held;
+        namespaces = w.namespaces.held;
+        services = w.services.held;
+        slices = w.slices.held;
+        changes = w.changes;
+      };
+      spare = min w.classes.spare (min w.gateways.spare (min w.routes.spare (min w.grants.spare (min w.namespaces.spare (min w.services.spare w.slices.spare)))));
+    } };
+}
+
+impl World {
+    /// Holds nothing.
+    pub fn new(alloc: Global) -> Self
+        ensures { result.world ≡ worlds.nothing }
+    {
+        World {
+            classes: Table::new(alloc),
+            gateways: Table::new(alloc),
+            routes: Table::new(alloc),
+            grants: Table::new(alloc),
+            namespaces: Table::new(alloc),
+            services: Table::new(alloc),
+            slices: Table::new(alloc),
+            changes: 0,
+        }
+    }
+
+    /// Whether there is room for the change: it is `Full` where it would hold one object too many, and where its
+    /// number would no longer be one of 64 bits.
+    #[tactic(auto, unfolding(gw_text::specs::model::World::is_full))]
+    pub fn check(&self, event: &Event) -> Result<(), Refusal>
+        ensures ok { IsOk result ↔ (worlds.is_full self.now.world (seen_event event.now) ≡ false) }
+        ensures full { IfErr result (λ e. e ≡ Refusal.Full) }
+    {
+        if self.is_one_too_many(event) || self.changes == u64::MAX {
+            return Err(Refusal::Full);
+        }
+        Ok(())
+    }
+
+    fn is_one_too_many(&self, event: &Event) -> bool
+        ensures { result ≡ worlds.is_one_too_many self.now.world (seen_event event.now) }
+    {
+        match event {
+            Event::Put(object) => !self.is_held(object) && self.has_no_room(object),
+            Event::Remove(_, _) => false,
+        }
+    }
+
+    fn has_no_room(&self, object: &Object) -> bool
+        ensures { result ≡ worlds.has_no_room self.now.world (seen_object object.now) }
+    {
+        self.is_crowded()
+            || (matches!(object, Object::HttpRoute(_)) && MOST_ROUTES <= self.routes.len())
+    }
+
+    // Whether something is held under the object's kind and key.
+    fn is_held(&self, object: &Object) -> bool
+        ensures { result ≡ worlds.is_held self.now.world (seen_object object.now) }
+    {
+        match object {
+            Object::GatewayClass(class) => self.classes.holds(&class.meta.key),
+            Object::Gateway(gateway) => self.gateways.holds(&gateway.meta.key),
+            Object::HttpRoute(route) => self.routes.holds(&route.meta.key),
+            Object::ReferenceGrant(grant) => self.grants.holds(&grant.meta.key),
+            Object::Namespace(namespace) => self.namespaces.holds(&namespace.meta.key),
+            Object::Service(service) => self.services.holds(&service.meta.key),
+            Object::EndpointSlice(slice) => self.slices.holds(&slice.meta.key),
+        }
+    }
+
+    // Whether at least as many objects are held as can be.
+    fn is_crowded(&self) -> bool
+        ensures { result ≡ nat_le worlds.most_objects (worlds.object_count self.now.world) }
+    {
+        let objects = self
+            .classes
+            .len()
+            .saturating_add(self.gateways.len())
+            .saturating_add(self.routes.len())
+            .saturating_add(self.grants.len())
+            .saturating_add(self.namespaces.len())
+            .saturating_add(self.services.len())
+            .saturating_add(self.slices.len());
+        MOST_OBJECTS <= objects
+    }
+
+    /// Makes room for one object more of each kind.
+    pub fn reserve(&mut self) -> Result<(), NoMemory>
+        ensures world { self.new.world ≡ self.old.world }
+        ensures ok { OnOk result (0 < self.new.spare) }
+    {
+        self.classes.reserve()?;
+        self.gateways.reserve()?;
+        self.routes.reserve()?;
+        self.grants.reserve()?;
+        self.namespaces.reserve()?;
+        self.services.reserve()?;
+        self.slices.reserve()
+    }
+
+    /// Does what the event says. It takes no memory.
+    #[tactic(auto, unfolding(gw_text::specs::model::World::is_full))]
+    pub fn put(&mut self, event: Event, at: Second)
+        requires room { 0 < self.old.spare }
+        requires check { worlds.is_full self.old.world (seen_event event) ≡ false }
+        ensures { self.new.world ≡ worlds.apply self.old.world (record { event = seen_event event; at = at }) }
+    {
+        match event {
+            Event::Put(object) => self.put_object(object, at),
+            Event::Remove(kind, key) => self.remove(kind, &key),
+        }
+        self.changes += 1;
+    }
+
+    fn put_object(&mut self, object: Object, at: Second)
+        requires { 0 < self.old.spare }
+        ensures { self.new.world ≡ worlds.put_object self.old.world (seen_object object) at }
+    {
+        match object {
+            Object::GatewayClass(class) => self.classes.put(class, at),
+            Object::Gateway(gateway) => self.gateways.put(gateway, at),
+            Object::HttpRoute(route) => self.routes.put(route, at),
+            Object::ReferenceGrant(grant) => self.grants.put(grant, at),
+            Object::Namespace(namespace) => self.namespaces.put(namespace, at),
+            Object::Service(service) => self.services.put(service, at),
+            Object::EndpointSlice(slice) => self.slices.put(slice, at),
+        }
+    }
+
+    fn remove(&mut self, kind: Kind, key: &Key)
+        ensures { self.new.world ≡ worlds.remove_key self.old.world (seen_kind kind) (joined key.now) }
+    {
+        match kind {
+            Kind::GatewayClass => self.classes.remove(key),
+            Kind::Gateway => self.gateways.remove(key),
+            Kind::HttpRoute => self.routes.remove(key),
+            Kind::ReferenceGrant => self.grants.remove(key),
+            Kind::Namespace => self.namespaces.remove(key),
+            Kind::Service => self.services.remove(key),
+            Kind::EndpointSlice => self.slices.remove(key),
+        }
+    }
+
+    /// The number of the changes so far.
+    pub fn changes(&self) -> u64
+        ensures { result ≡ self.now.world.changes }
+    {
+        self.changes
+    }
+
+    /// The GatewayClass of this key.
+    pub fn class(&self, key: &Key) -> Option<&GatewayClass>
+        ensures { option_copied result ≡ object_of worlds.class_key (joined key.now) self.now.world.classes }
+    {
+        self.classes.get(key)
+    }
+
+    /// The Gateway of this key.
+    pub fn gateway(&self, key: &Key) -> Option<&Gateway>
+        ensures { option_copied result ≡ object_of worlds.gateway_key (joined key.now) self.now.world.gateways }
+    {
+        self.gateways.get(key)
+    }
+
+    /// The HTTPRoute of this key.
+    pub fn route(&self, key: &Key) -> Option<&HttpRoute>
+        ensures { option_copied result ≡ object_of worlds.route_key (joined key.now) self.now.world.routes }
+    {
+        self.routes.get(key)
+    }
+
+    /// The Service of this key.
+    pub fn service(&self, key: &Key) -> Option<&Service>
+        ensures { option_copied result ≡ object_of worlds.service_key (joined key.now) self.now.world.services }
+    {
+        self.services.get(key)
+    }
+
+    /// The Namespace of this key.
+    pub fn namespace(&self, key: &Key) -> Option<&Namespace>
+        ensures { option_copied result ≡ object_of worlds.namespace_key (joined key.now) self.now.world.namespaces }
+    {
+        self.namespaces.get(key)
+    }
+
+    /// All GatewayClasses, in key order.
+    pub fn classes(&self) -> &[GatewayClass]
+        ensures { result.now ≡ objects_of self.now.world.classes }
+    {
+        self.classes.objects()
+    }
+
+    /// All Gateways, in key order.
+    pub fn gateways(&self) -> &[Gateway]
+        ensures { result.now ≡ objects_of self.now.world.gateways }
+    {
+        self.gateways.objects()
+    }
+
+    /// All HTTPRoutes, in key order.
+    pub fn routes(&self) -> &[HttpRoute]
+        ensures { result.now ≡ objects_of self.now.world.routes }
+    {
+        self.routes.objects()
+    }
+
+    /// All Namespaces, in key order.
+    pub fn namespaces(&self) -> &[Namespace]
+        ensures { result.now ≡ objects_of self.now.world.namespaces }
+    {
+        self.namespaces.objects()
+    }
+
+    /// All ReferenceGrants, in key order.
+    pub fn grants(&self) -> &[ReferenceGrant]
+        ensures { result.now ≡ objects_of self.now.world.grants }
+    {
+        self.grants.objects()
+    }
+
+    /// All Services, in key order.
+    pub fn services(&self) -> &[Service]
+        ensures { result.now ≡ objects_of self.now.world.services }
+    {
+        self.services.objects()
+    }
+
+    /// All EndpointSlices, in key order.
+    pub fn slices(&self) -> &[EndpointSlice]
+        ensures { result.now ≡ objects_of self.now.world.slices }
+    {
+        self.slices.objects()
+    }
+
+    /// The ReferenceGrants of a namespace, in key order.
+    pub fn grants_in(&self, namespace: &Text) -> &[ReferenceGrant]
+        ensures { result.now ≡ worlds.in_namespace worlds.grant_key namespace.now self.now.world.grants }
+    {
+        self.grants.in_namespace(namespace)
+    }
+
+    /// The EndpointSlices of a namespace, in key order.
+    pub fn slices_in(&self, namespace: &Text) -> &[EndpointSlice]
+        ensures { result.now ≡ worlds.in_namespace worlds.slice_key namespace.now self.now.world.slices }
+    {
+        self.slices.in_namespace(namespace)
+    }
+}
