@@ -1,0 +1,96 @@
+-- The text of all statuses, as JSON with the keys of each object in byte order. Source: Condition of the Kubernetes API;
+-- GatewayClassStatus, GatewayStatus, GatewayStatusAddress, ListenerStatus and RouteGroupKind of the Gateway API reference.
+use Rattle.std.specs.Prelude.{ℕ, List, [], ◌∷◌, ◌++◌, codes, Bool, true, false, Option, Some, None, map, flat_map}
+use Rattle.serde_json.specs.Data.{Data, string, array, object, member, no_members}
+use Rattle.serde_json.specs.View.{items_of}
+use Rattle.gw_json.specs.Lines.{line_of}
+use Rattle.gw_text.specs.model.Forms.{printed}
+use Rattle.gw_text.specs.model.Conditions.{Condition, condition_kind_text, reason_text}
+use Rattle.gw_text.specs.model.Addresses.{Socket, address_text}
+use Rattle.gw_text.specs.model.Statuses.{ClassStatus, ListenerStatus, GatewayStatus, Statuses}
+
+-- The status of a condition. Source: ConditionStatus.
+abbrev pub truth_text : Bool → List ℕ
+truth_text true = codes "True"
+truth_text false = codes "False"
+
+-- A condition: its reason, its status, its type.
+abbrev pub condition_data : Condition → Data
+condition_data c =
+    object (member (codes "reason") (string (reason_text c.reason))
+    (member (codes "status") (string (truth_text c.truth))
+    (member (codes "type") (string (condition_kind_text c.kind)) no_members)))
+
+abbrev pub conditions_data : List Condition → Data
+conditions_data conditions = array (items_of (map condition_data conditions))
+
+-- The conditions of a class, a listener and a Gateway, in the byte order of their types.
+abbrev pub class_conditions : ClassStatus → List Condition
+class_conditions s = s.accepted ∷ []
+
+abbrev pub listener_conditions : ListenerStatus → List Condition
+listener_conditions s = s.accepted ∷ s.conflicted ∷ s.programmed ∷ s.resolved ∷ []
+
+abbrev pub gateway_conditions : GatewayStatus → List Condition
+gateway_conditions s = s.accepted ∷ s.programmed ∷ []
+
+-- A GatewayClass.
+unfoldable pub class_data : ClassStatus → Data
+class_data s =
+    object (member (codes "kind") (string (codes "GatewayClass"))
+    (member (codes "name") (string (printed s.key.name))
+    (member (codes "status") (object (member (codes "conditions") (conditions_data (class_conditions s)) no_members)) no_members)))
+
+-- HTTPRoute, a kind of Route. Source: RouteGroupKind.
+abbrev pub http_route_data : Data
+http_route_data =
+    object (member (codes "group") (string (codes "gateway.networking.k8s.io"))
+    (member (codes "kind") (string (codes "HTTPRoute")) no_members))
+
+-- The supported kinds of a listener: HTTPRoute or none.
+abbrev pub supported_kinds : Bool → List Data
+supported_kinds true = http_route_data ∷ []
+supported_kinds false = []
+
+-- A listener.
+unfoldable pub listener_data : ListenerStatus → Data
+listener_data s =
+    object (member (codes "conditions") (conditions_data (listener_conditions s))
+    (member (codes "name") (string (printed s.name))
+    (member (codes "supportedKinds") (array (items_of (supported_kinds s.http))) no_members)))
+
+-- An address of a Gateway. Source: IPAddressType.
+abbrev pub address_data : Socket → Data
+address_data at =
+    object (member (codes "type") (string (codes "IPAddress"))
+    (member (codes "value") (string (printed (address_text at))) no_members))
+
+-- The addresses of a Gateway: one, or none where it isn't programmed.
+abbrev pub addresses_of : Option Socket → List Data
+addresses_of (Some at) = address_data at ∷ []
+addresses_of None = []
+
+-- The status of a Gateway.
+abbrev pub gateway_status_data : GatewayStatus → Data
+gateway_status_data s =
+    object (member (codes "addresses") (array (items_of (addresses_of s.address)))
+    (member (codes "conditions") (conditions_data (gateway_conditions s))
+    (member (codes "listeners") (array (items_of (map listener_data s.listeners))) no_members)))
+
+-- A Gateway.
+unfoldable pub gateway_data : GatewayStatus → Data
+gateway_data s =
+    object (member (codes "kind") (string (codes "Gateway"))
+    (member (codes "name") (string (printed s.key.name))
+    (member (codes "namespace") (string (printed s.key.namespace))
+    (member (codes "status") (gateway_status_data s) no_members))))
+
+abbrev pub classes_text : List ClassStatus → List ℕ
+classes_text classes = flat_map (λ s. line_of (class_data s)) classes
+
+abbrev pub gateways_text : List GatewayStatus → List ℕ
+gateways_text gateways = flat_map (λ s. line_of (gateway_data s)) gateways
+
+-- The whole text: a line for each class, then one for each Gateway.
+unfoldable pub statuses_text : Statuses → List ℕ
+statuses_text s = classes_text s.classes ++ gateways_text s.gateways
