@@ -1,5 +1,7 @@
 -- What contracts speak of: objects, counts and lists as plain records, a file for each subject.
 pub mod Addresses
+pub mod Chains
+pub mod Doors
 pub mod Fields
 pub mod Filters
 pub mod Forms

@@ -3,7 +3,7 @@ ghost use Rattle.std.specs.Cmp.Lexicographic.{slice_cmp};
 ghost use Rattle.std.specs.Ordering.{nat_cmp};
 ghost use Rattle.gw_text.specs.Parsing.{Parses};
 ghost use Rattle.gw_text.specs.model.Forms as forms;
-ghost use Rattle.gw_text.specs.model.Names.{separator, joined};
+ghost use Rattle.gw_text.specs.model.Names.{separator, joined, same_key};
 
 use crate::name::{TextFault, is_name, is_namespace};
 use crate::text::Text;
@@ -74,7 +74,8 @@ impl Key {
 
     /// Whether both keys have the same namespace and name.
     pub fn is(&self, other: &Key) -> bool
-        ensures { IsTrue result ↔ (self.now ≡ other.now) }
+        ensures equal { IsTrue result ↔ (self.now ≡ other.now) }
+        ensures value { result ≡ same_key self.now other.now }
     {
         self.namespace.bytes() == other.namespace.bytes() && self.name.bytes() == other.name.bytes()
     }

@@ -3,22 +3,30 @@
 #![tactic(auto)]
 
 mod boxed;
+mod door;
+mod doors;
 mod field;
 mod host;
+mod ipv4;
 mod key;
 mod meta;
 mod name;
 mod second;
+mod socket;
 #[cfg(test)]
 mod tests;
 mod text;
 
 pub use boxed::Boxed;
+pub use door::Door;
+pub use doors::{DoorFault, Doors};
 pub use field::Field;
 pub use host::Host;
+pub use ipv4::{Ipv4, parse_ipv4};
 pub use key::Key;
 pub use meta::Meta;
 pub use name::{Name, TextFault, is_hostname, is_name, is_namespace, is_precise_hostname};
 pub use second::Second;
+pub use socket::Socket;
 pub use std::alloc::AllocError as NoMemory;
 pub use text::Text;

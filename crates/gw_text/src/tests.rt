@@ -1,3 +1,5 @@
+mod doors;
+
 use crate::{
     Host, Key, Name, Second, Text, TextFault, is_hostname, is_name, is_namespace,
     is_precise_hostname,
