@@ -5,7 +5,6 @@ pub mod Grants
 pub mod Labels
 pub mod Metadata
 pub mod Namespaces
-pub mod Parts
 pub mod Seen
 pub mod SeenFrom
 pub mod Selectors

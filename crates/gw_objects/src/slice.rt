@@ -4,11 +4,10 @@ ghost use Rattle.gw_json.specs.Fields.{place_of};
 ghost use Rattle.gw_objects.specs.Slices as slices;
 
 use crate::fields::{need_word, word_or};
-use crate::ipv4::{Ipv4, parse_ipv4};
 use crate::labels::read_labels;
 use gw_json::{Cursor, Item, Refusal, each_item};
 use gw_labels::Labels;
-use gw_text::{Boxed, Meta, Text};
+use gw_text::{Boxed, Ipv4, Meta, Text, parse_ipv4};
 use std::alloc::Global;
 use std::marker::Model;
 

@@ -1,6 +1,7 @@
 use super::answer;
-use crate::{parse_ipv4, read_meta, read_namespace, read_slice};
+use crate::{read_meta, read_namespace, read_slice};
 use gw_json::{Cursor, read_value};
+use gw_text::parse_ipv4;
 use std::test::Fail;
 
 // The letter of a kind, and an object of it as an API server writes it.
@@ -53,26 +54,4 @@ fn endpoints_are_ready_unless_said_otherwise(rt: HostRuntime) -> Result<(), Fail
     }
     assert_eq!(rt; slice.endpoints.len(), 3);
     Ok(())
-}
-
-#[test]
-fn dotted_addresses(rt: HostRuntime) {
-    for (text, expected) in [
-        ("0.0.0.0", Some([0, 0, 0, 0])),
-        ("255.249.99.10", Some([255, 249, 99, 10])),
-        ("1.2.3", None),
-        ("1.2.3.4.5", None),
-        ("1.2.3.", None),
-        (".2.3.4", None),
-        ("1.2.3.256", None),
-        ("1.2.3.1000", None),
-        ("01.2.3.4", None),
-        ("00.2.3.4", None),
-        ("1.2.3.4 ", None),
-        ("1.2.3.+4", None),
-        ("", None),
-    ] {
-        let numbers = parse_ipv4(text.as_bytes()).map(|ip| [ip.a, ip.b, ip.c, ip.d]);
-        assert_eq!(rt; numbers, expected, "{text}");
-    }
 }
