@@ -105,6 +105,17 @@ module _ {T : Type 0} (key : T → List ℕ) (p : List ℕ) where
   ordered_drop [] (suc i) order = tt
   ordered_drop (x ∷ xs) (suc i) order = ordered_drop xs i order.1
 
+  all_take : (P : List ℕ → Type 0) (xs : List T) (j : ℕ) → AllByRecursion P (map key xs) → AllByRecursion P (map key (take j xs))
+  all_take P xs zero all = tt
+  all_take P [] (suc j) all = tt
+  all_take P (x ∷ xs) (suc j) all = (all.0, all_take P xs j all.1)
+
+  pub ordered_take : (xs : List T) (j : ℕ) → IsInKeyOrder key xs → IsInKeyOrder key (take j xs)
+  unfolding IsStrictlySortedBy
+  ordered_take xs zero order = tt
+  ordered_take [] (suc j) order = tt
+  ordered_take (x ∷ xs) (suc j) order = (all_take _ xs j order.0, ordered_take xs j order.1)
+
   pub high_drop : (xs : List T) (i : ℕ) → AllWithin (λ y. before y ≡ false) xs i (length xs) → AllByRecursion (λ y. before y ≡ false) (drop i xs)
   high_drop [] zero rest = tt
   high_drop [] (suc i) rest = tt

@@ -27,6 +27,7 @@ pub enum Event {
 /// One change of a list of changes.
 #[derive(Drop)]
 pub struct Entry {
+    /// What it does.
     pub event: Event,
     /// The moment at which it came.
     pub at: Second,
@@ -35,6 +36,7 @@ pub struct Entry {
 /// What a line says.
 #[derive(Drop)]
 pub enum Read {
+    /// A change, for which there may still be no room.
     Change(Event),
     /// A notice, or an object that isn't of one of the kinds at the version that is read.
     Skipped,

@@ -6,6 +6,8 @@ mod keyed;
 mod kind;
 mod read;
 mod table;
+#[cfg(test)]
+mod tests;
 mod world;
 
 pub use event::{Entry, Event, Object, Read};

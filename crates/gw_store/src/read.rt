@@ -19,7 +19,7 @@ use gw_text::Meta;
 use serde_json::Value;
 use std::alloc::Global;
 
-// An event as it is written.
+/// An event as it is written, of whose object nothing but its version and its kind is read yet.
 #[derive(Drop)]
 pub struct Written<'v> {
     sort: &'v str,

@@ -71,7 +71,8 @@ impl<T: Keyed + Drop> Table<T> {
 
     /// The objects in key order.
     pub fn objects(&self) -> &[T]
-        ensures { result.now ≡ objects_of self.now.held }
+        ensures value { result.now ≡ objects_of self.now.held }
+        ensures order { IsInKeyOrder T.key result.now }
     {
         self.objects.as_slice()
     }
@@ -129,7 +130,8 @@ impl<T: Keyed + Drop> Table<T> {
 
     /// The objects of a namespace, in key order.
     pub fn in_namespace(&self, namespace: &Text) -> &[T]
-        ensures { result.now ≡ in_namespace T.key namespace.now self.now.held }
+        ensures value { result.now ≡ in_namespace T.key namespace.now self.now.held }
+        ensures order { IsInKeyOrder T.key result.now }
     {
         let objects = self.objects.as_slice();
         let first = objects.partition_point(|object| is_before(object, namespace));

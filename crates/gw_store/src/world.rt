@@ -1,6 +1,6 @@
 ghost use Rattle.std.specs.Prelude.{◌≡◌, ◌↔◌, ◌<◌, false, nat_le, IsOk, IfErr, OnOk, option_copied};
 ghost use Rattle.gw_text.specs.model.Names.{joined};
-ghost use Rattle.gw_text.specs.model.Held.{objects_of, object_of};
+ghost use Rattle.gw_text.specs.model.Held.{objects_of, object_of, IsInKeyOrder};
 ghost use Rattle.gw_text.specs.model.World as worlds;
 ghost use Rattle.gw_store.specs.Seen.{seen_kind};
 ghost use Rattle.gw_store.specs.SeenEvents.{seen_object, seen_event};
@@ -233,63 +233,72 @@ impl World {
 
     /// All GatewayClasses, in key order.
     pub fn classes(&self) -> &[GatewayClass]
-        ensures { result.now ≡ objects_of self.now.world.classes }
+        ensures value { result.now ≡ objects_of self.now.world.classes }
+        ensures order { IsInKeyOrder worlds.class_key result.now }
     {
         self.classes.objects()
     }
 
     /// All Gateways, in key order.
     pub fn gateways(&self) -> &[Gateway]
-        ensures { result.now ≡ objects_of self.now.world.gateways }
+        ensures value { result.now ≡ objects_of self.now.world.gateways }
+        ensures order { IsInKeyOrder worlds.gateway_key result.now }
     {
         self.gateways.objects()
     }
 
     /// All HTTPRoutes, in key order.
     pub fn routes(&self) -> &[HttpRoute]
-        ensures { result.now ≡ objects_of self.now.world.routes }
+        ensures value { result.now ≡ objects_of self.now.world.routes }
+        ensures order { IsInKeyOrder worlds.route_key result.now }
     {
         self.routes.objects()
     }
 
     /// All Namespaces, in key order.
     pub fn namespaces(&self) -> &[Namespace]
-        ensures { result.now ≡ objects_of self.now.world.namespaces }
+        ensures value { result.now ≡ objects_of self.now.world.namespaces }
+        ensures order { IsInKeyOrder worlds.namespace_key result.now }
     {
         self.namespaces.objects()
     }
 
     /// All ReferenceGrants, in key order.
     pub fn grants(&self) -> &[ReferenceGrant]
-        ensures { result.now ≡ objects_of self.now.world.grants }
+        ensures value { result.now ≡ objects_of self.now.world.grants }
+        ensures order { IsInKeyOrder worlds.grant_key result.now }
     {
         self.grants.objects()
     }
 
     /// All Services, in key order.
     pub fn services(&self) -> &[Service]
-        ensures { result.now ≡ objects_of self.now.world.services }
+        ensures value { result.now ≡ objects_of self.now.world.services }
+        ensures order { IsInKeyOrder worlds.service_key result.now }
     {
         self.services.objects()
     }
 
     /// All EndpointSlices, in key order.
     pub fn slices(&self) -> &[EndpointSlice]
-        ensures { result.now ≡ objects_of self.now.world.slices }
+        ensures value { result.now ≡ objects_of self.now.world.slices }
+        ensures order { IsInKeyOrder worlds.slice_key result.now }
     {
         self.slices.objects()
     }
 
     /// The ReferenceGrants of a namespace, in key order.
     pub fn grants_in(&self, namespace: &Text) -> &[ReferenceGrant]
-        ensures { result.now ≡ worlds.in_namespace worlds.grant_key namespace.now self.now.world.grants }
+        ensures value { result.now ≡ worlds.in_namespace worlds.grant_key namespace.now self.now.world.grants }
+        ensures order { IsInKeyOrder worlds.grant_key result.now }
     {
         self.grants.in_namespace(namespace)
     }
 
     /// The EndpointSlices of a namespace, in key order.
     pub fn slices_in(&self, namespace: &Text) -> &[EndpointSlice]
-        ensures { result.now ≡ worlds.in_namespace worlds.slice_key namespace.now self.now.world.slices }
+        ensures value { result.now ≡ worlds.in_namespace worlds.slice_key namespace.now self.now.world.slices }
+        ensures order { IsInKeyOrder worlds.slice_key result.now }
     {
         self.slices.in_namespace(namespace)
     }

@@ -5,11 +5,11 @@ use Rattle.std.proofs.lemmas.List.Sorted.{IsPartitionPoint-from_clause}
 use Rattle.std.specs.List.Sorted.{IsPartitionPoint}
 use Rattle.gw_text.specs.model.Held.{IsInKeyOrder}
 use Rattle.gw_store.proofs.Places.{objects-held}
-use Rattle.gw_store.proofs.Namespaces.{before, within, parted, before_falls, within_falls, ordered_drop, high_drop, between}
+use Rattle.gw_store.proofs.Namespaces.{before, within, parted, before_falls, within_falls, ordered_drop, ordered_take, high_drop, between}
 use Rattle.gw_store.proofs.table.Table.in_namespace.Goals as goal
 
-pub returns : goal.returns
-returns g c =
+pub returns-clause-value : goal.returns-clause-value
+returns-clause-value g c =
     let key = g.T.Keyed.key in
     let p = c.args.namespace.now ++ 47 ∷ [] in
     let xs = c.as_slice-objects.result.now in
@@ -22,3 +22,10 @@ returns g c =
     IsPartitionPoint-from_clause (within key p) rest c.partition_point-count.result (rw take_rest at c.partition_point-count.ensures.partitioned) (parted (within key p) rest (within_falls key p rest (ordered_drop key p xs i order) (high_drop key p xs i first.1))) (λ a r q k. search rules) in
     rw (take_rest, ← c.self.view_is) (between key p xs i _ c.partition_point-first.ensures.bound (rw take_rest at c.partition_point-count.ensures.bound) first second
     ∙ ap (λ objects. filter (within key p) objects) (c.as_slice-objects.ensures.value ∙ objects-held _ _ c.self.invariant.alike))
+
+pub returns-clause-order : goal.returns-clause-order
+returns-clause-order g c =
+    let key = g.T.Keyed.key in
+    let p = c.args.namespace.now ++ 47 ∷ [] in
+    let order : IsInKeyOrder key c.as_slice-objects.result.now = rw c.as_slice-objects.ensures.value c.self.invariant.ordered in
+    rw take_rest (ordered_take key p _ _ (ordered_drop key p _ _ order))
