@@ -4,6 +4,8 @@
 mod address;
 mod gateway;
 mod listener;
+#[cfg(test)]
+mod tests;
 
 pub use gateway::{GatewayState, gateway_state};
 pub use listener::{ListenerState, ListenerStates, listener_states};

@@ -1,0 +1,624 @@
+//! The conditions of Gateways and listeners, by cases.
+//!
+//! A case begins with `#` and says why its answers are so. Then come the doors of the program, and the addresses and the
+//! listeners of the Gateway `d/g`: `""` is an empty value, `-` an absent one. A listener has a name, a protocol, a port, a
+//! hostname and kinds, which are of the Gateway API where they have no group.
+//!
+//! Behind `|` stand the conditions that are wanted, `+` for True and `-` for False: of a listener Conflicted, Accepted,
+//! ResolvedRefs and Programmed, and its supported kind; of the Gateway Accepted and Programmed, and its socket.
+use crate::{GatewayState, ListenerState, gateway_state, listener_states};
+use gw_objects::{
+    Address, AllowedRoutes, FromNamespaces, Gateway, GatewayFields, Listener, RouteKind,
+};
+use gw_status::Condition;
+use gw_text::{Boxed, Door, Doors, Host, Key, Meta, NoMemory, Socket, Text};
+use std::alloc::Global;
+use std::str;
+use std::test::Fail;
+
+// The doors of the cases that are not about doors.
+const DOORS: &[u8] = b"door d/g:80=127.0.0.1:8080\ndoor d/g:81=127.0.0.1:8081";
+
+// Up to two listeners, by protocol, port and hostname.
+const PAIRS: &[u8] = br#"
+#A lone listener.
+listener a HTTP 80 - - | -NoConflicts +Accepted +ResolvedRefs +Programmed HTTPRoute
+gateway                | +Accepted +Programmed 127.0.0.1:8080
+#Neither has a hostname: absent hostnames are equal.
+listener a HTTP 80 - - | +HostnameConflict -HostnameConflict +ResolvedRefs -Invalid HTTPRoute
+listener b HTTP 80 - - | +HostnameConflict -HostnameConflict +ResolvedRefs -Invalid HTTPRoute
+gateway                | -ListenersNotValid -Invalid -
+#Neither has a hostname, but the ports differ.
+listener a HTTP 80 - - | -NoConflicts +Accepted +ResolvedRefs +Programmed HTTPRoute
+listener b HTTP 81 - - | -NoConflicts +Accepted +ResolvedRefs +Programmed HTTPRoute
+gateway                | +Accepted +Programmed 127.0.0.1:8080
+#Equal hostnames at one port.
+listener a HTTP 80 a.example.com - | +HostnameConflict -HostnameConflict +ResolvedRefs -Invalid HTTPRoute
+listener b HTTP 80 a.example.com - | +HostnameConflict -HostnameConflict +ResolvedRefs -Invalid HTTPRoute
+gateway                            | -ListenersNotValid -Invalid -
+#Equal hostnames at different ports.
+listener a HTTP 80 a.example.com - | -NoConflicts +Accepted +ResolvedRefs +Programmed HTTPRoute
+listener b HTTP 81 a.example.com - | -NoConflicts +Accepted +ResolvedRefs +Programmed HTTPRoute
+gateway                            | +Accepted +Programmed 127.0.0.1:8080
+#Different hostnames at one port.
+listener a HTTP 80 a.example.com - | -NoConflicts +Accepted +ResolvedRefs +Programmed HTTPRoute
+listener b HTTP 80 b.example.com - | -NoConflicts +Accepted +ResolvedRefs +Programmed HTTPRoute
+gateway                            | +Accepted +Programmed 127.0.0.1:8080
+#An absent hostname is not equal to one that is given.
+listener a HTTP 80 - -             | -NoConflicts +Accepted +ResolvedRefs +Programmed HTTPRoute
+listener b HTTP 80 a.example.com - | -NoConflicts +Accepted +ResolvedRefs +Programmed HTTPRoute
+gateway                            | +Accepted +Programmed 127.0.0.1:8080
+#Equal wildcards.
+listener a HTTP 80 *.example.com - | +HostnameConflict -HostnameConflict +ResolvedRefs -Invalid HTTPRoute
+listener b HTTP 80 *.example.com - | +HostnameConflict -HostnameConflict +ResolvedRefs -Invalid HTTPRoute
+gateway                            | -ListenersNotValid -Invalid -
+#A wildcard is not equal to the hostname behind its star.
+listener a HTTP 80 *.example.com - | -NoConflicts +Accepted +ResolvedRefs +Programmed HTTPRoute
+listener b HTTP 80 example.com -   | -NoConflicts +Accepted +ResolvedRefs +Programmed HTTPRoute
+gateway                            | +Accepted +Programmed 127.0.0.1:8080
+#A wildcard is not equal to a hostname that it covers.
+listener a HTTP 80 a.example.com - | -NoConflicts +Accepted +ResolvedRefs +Programmed HTTPRoute
+listener b HTTP 80 *.example.com - | -NoConflicts +Accepted +ResolvedRefs +Programmed HTTPRoute
+gateway                            | +Accepted +Programmed 127.0.0.1:8080
+#HTTP and HTTPS: both are in conflict.
+listener a HTTP 80 - -  | +ProtocolConflict -ProtocolConflict +ResolvedRefs -Invalid HTTPRoute
+listener b HTTPS 80 - - | +ProtocolConflict -ProtocolConflict +ResolvedRefs -Invalid -
+gateway                 | -ListenersNotValid -Invalid -
+#HTTPS and HTTP: the order plays no part.
+listener a HTTPS 80 - - | +ProtocolConflict -ProtocolConflict +ResolvedRefs -Invalid -
+listener b HTTP 80 - -  | +ProtocolConflict -ProtocolConflict +ResolvedRefs -Invalid HTTPRoute
+gateway                 | -ListenersNotValid -Invalid -
+#HTTP and TLS.
+listener a HTTP 80 - - | +ProtocolConflict -ProtocolConflict +ResolvedRefs -Invalid HTTPRoute
+listener b TLS 80 - -  | +ProtocolConflict -ProtocolConflict +ResolvedRefs -Invalid -
+gateway                | -ListenersNotValid -Invalid -
+#TCP and HTTP.
+listener a TCP 80 - -  | +ProtocolConflict -ProtocolConflict +ResolvedRefs -Invalid -
+listener b HTTP 80 - - | +ProtocolConflict -ProtocolConflict +ResolvedRefs -Invalid HTTPRoute
+gateway                | -ListenersNotValid -Invalid -
+#Different hostnames do not settle a conflict of protocols.
+listener a HTTP 80 a.example.com -  | +ProtocolConflict -ProtocolConflict +ResolvedRefs -Invalid HTTPRoute
+listener b HTTPS 80 b.example.com - | +ProtocolConflict -ProtocolConflict +ResolvedRefs -Invalid -
+gateway                             | -ListenersNotValid -Invalid -
+#HTTP and HTTPS at different ports.
+listener a HTTP 80 - -  | -NoConflicts +Accepted +ResolvedRefs +Programmed HTTPRoute
+listener b HTTPS 81 - - | -NoConflicts -UnsupportedProtocol +ResolvedRefs -Invalid -
+gateway                 | +ListenersNotValid +Programmed 127.0.0.1:8080
+#UDP has ports of its own.
+listener a HTTP 80 - - | -NoConflicts +Accepted +ResolvedRefs +Programmed HTTPRoute
+listener b UDP 80 - -  | -NoConflicts -UnsupportedProtocol +ResolvedRefs -Invalid -
+gateway                | +ListenersNotValid +Programmed 127.0.0.1:8080
+#UDP with an equal hostname.
+listener a UDP 80 a.example.com -  | -NoConflicts -UnsupportedProtocol +ResolvedRefs -Invalid -
+listener b HTTP 80 a.example.com - | -NoConflicts +Accepted +ResolvedRefs +Programmed HTTPRoute
+gateway                            | +ListenersNotValid +Programmed 127.0.0.1:8080
+#A protocol of a domain is none of HTTPS, TLS and TCP.
+listener a HTTP 80 - -            | -NoConflicts +Accepted +ResolvedRefs +Programmed HTTPRoute
+listener b example.com/own 80 - - | -NoConflicts -UnsupportedProtocol +ResolvedRefs -Invalid -
+gateway                           | +ListenersNotValid +Programmed 127.0.0.1:8080
+#Protocols are compared with regard to case.
+listener a http 80 - - | -NoConflicts -UnsupportedProtocol +ResolvedRefs -Invalid -
+listener b HTTP 80 - - | -NoConflicts +Accepted +ResolvedRefs +Programmed HTTPRoute
+gateway                | +ListenersNotValid +Programmed 127.0.0.1:8080
+#Two HTTPS of one hostname: neither is HTTP.
+listener a HTTPS 80 a.example.com - | -NoConflicts -UnsupportedProtocol +ResolvedRefs -Invalid -
+listener b HTTPS 80 a.example.com - | -NoConflicts -UnsupportedProtocol +ResolvedRefs -Invalid -
+gateway                             | -ListenersNotValid -Invalid -
+#HTTPS and TCP: neither is HTTP.
+listener a HTTPS 80 - - | -NoConflicts -UnsupportedProtocol +ResolvedRefs -Invalid -
+listener b TCP 80 - -   | -NoConflicts -UnsupportedProtocol +ResolvedRefs -Invalid -
+gateway                 | -ListenersNotValid -Invalid -
+#TLS and UDP: neither is HTTP.
+listener a TLS 80 - - | -NoConflicts -UnsupportedProtocol +ResolvedRefs -Invalid -
+listener b UDP 80 - - | -NoConflicts -UnsupportedProtocol +ResolvedRefs -Invalid -
+gateway               | -ListenersNotValid -Invalid -
+#Two of a protocol of a domain: neither is HTTP.
+listener a example.com/own 80 - - | -NoConflicts -UnsupportedProtocol +ResolvedRefs -Invalid -
+listener b example.com/own 80 - - | -NoConflicts -UnsupportedProtocol +ResolvedRefs -Invalid -
+gateway                           | -ListenersNotValid -Invalid -
+"#;
+
+// Three listeners.
+const TRIPLES: &[u8] = br#"
+#Two without hostname are in conflict, the third has one.
+listener a HTTP 80 - -             | +HostnameConflict -HostnameConflict +ResolvedRefs -Invalid HTTPRoute
+listener b HTTP 80 - -             | +HostnameConflict -HostnameConflict +ResolvedRefs -Invalid HTTPRoute
+listener c HTTP 80 x.example.com - | -NoConflicts +Accepted +ResolvedRefs +Programmed HTTPRoute
+gateway                            | +ListenersNotValid +Programmed 127.0.0.1:8080
+#Three equal hostnames: none is spared.
+listener a HTTP 80 a.example.com - | +HostnameConflict -HostnameConflict +ResolvedRefs -Invalid HTTPRoute
+listener b HTTP 80 a.example.com - | +HostnameConflict -HostnameConflict +ResolvedRefs -Invalid HTTPRoute
+listener c HTTP 80 a.example.com - | +HostnameConflict -HostnameConflict +ResolvedRefs -Invalid HTTPRoute
+gateway                            | -ListenersNotValid -Invalid -
+#The first and the last are in conflict, what stands between them is not.
+listener a HTTP 80 a.example.com - | +HostnameConflict -HostnameConflict +ResolvedRefs -Invalid HTTPRoute
+listener b HTTP 80 b.example.com - | -NoConflicts +Accepted +ResolvedRefs +Programmed HTTPRoute
+listener c HTTP 80 a.example.com - | +HostnameConflict -HostnameConflict +ResolvedRefs -Invalid HTTPRoute
+gateway                            | +ListenersNotValid +Programmed 127.0.0.1:8080
+#The first and the last are in conflict, the other port is not theirs.
+listener a HTTP 80 - - | +HostnameConflict -HostnameConflict +ResolvedRefs -Invalid HTTPRoute
+listener b HTTP 81 - - | -NoConflicts +Accepted +ResolvedRefs +Programmed HTTPRoute
+listener c HTTP 80 - - | +HostnameConflict -HostnameConflict +ResolvedRefs -Invalid HTTPRoute
+gateway                | +ListenersNotValid +Programmed 127.0.0.1:8080
+#Three hostnames that cover one another, and are not equal.
+listener a HTTP 80 - -             | -NoConflicts +Accepted +ResolvedRefs +Programmed HTTPRoute
+listener b HTTP 80 *.example.com - | -NoConflicts +Accepted +ResolvedRefs +Programmed HTTPRoute
+listener c HTTP 80 a.example.com - | -NoConflicts +Accepted +ResolvedRefs +Programmed HTTPRoute
+gateway                            | +Accepted +Programmed 127.0.0.1:8080
+#Both conflicts: ProtocolConflict comes first.
+listener a HTTP 80 - -  | +ProtocolConflict -ProtocolConflict +ResolvedRefs -Invalid HTTPRoute
+listener b HTTP 80 - -  | +ProtocolConflict -ProtocolConflict +ResolvedRefs -Invalid HTTPRoute
+listener c HTTPS 80 - - | +ProtocolConflict -ProtocolConflict +ResolvedRefs -Invalid -
+gateway                 | -ListenersNotValid -Invalid -
+#One TCP is in conflict with both HTTP, whatever their hostnames.
+listener a HTTP 80 a.example.com - | +ProtocolConflict -ProtocolConflict +ResolvedRefs -Invalid HTTPRoute
+listener b TCP 80 - -              | +ProtocolConflict -ProtocolConflict +ResolvedRefs -Invalid -
+listener c HTTP 80 b.example.com - | +ProtocolConflict -ProtocolConflict +ResolvedRefs -Invalid HTTPRoute
+gateway                            | -ListenersNotValid -Invalid -
+#One HTTP is in conflict with both others.
+listener a HTTPS 80 - - | +ProtocolConflict -ProtocolConflict +ResolvedRefs -Invalid -
+listener b TLS 80 - -   | +ProtocolConflict -ProtocolConflict +ResolvedRefs -Invalid -
+listener c HTTP 80 - -  | +ProtocolConflict -ProtocolConflict +ResolvedRefs -Invalid HTTPRoute
+gateway                 | -ListenersNotValid -Invalid -
+#A conflict at one port leaves the other alone.
+listener a HTTP 80 - - | -NoConflicts +Accepted +ResolvedRefs +Programmed HTTPRoute
+listener b HTTP 81 - - | +ProtocolConflict -ProtocolConflict +ResolvedRefs -Invalid HTTPRoute
+listener c TLS 81 - -  | +ProtocolConflict -ProtocolConflict +ResolvedRefs -Invalid -
+gateway                | +ListenersNotValid +Programmed 127.0.0.1:8080
+#UDP beside a conflict of protocols.
+listener a HTTP 80 - -  | +ProtocolConflict -ProtocolConflict +ResolvedRefs -Invalid HTTPRoute
+listener b UDP 80 - -   | -NoConflicts -UnsupportedProtocol +ResolvedRefs -Invalid -
+listener c HTTPS 80 - - | +ProtocolConflict -ProtocolConflict +ResolvedRefs -Invalid -
+gateway                 | -ListenersNotValid -Invalid -
+#A protocol of a domain beside a conflict of hostnames.
+listener a HTTP 80 - -            | +HostnameConflict -HostnameConflict +ResolvedRefs -Invalid HTTPRoute
+listener b example.com/own 80 - - | -NoConflicts -UnsupportedProtocol +ResolvedRefs -Invalid -
+listener c HTTP 80 - -            | +HostnameConflict -HostnameConflict +ResolvedRefs -Invalid HTTPRoute
+gateway                           | -ListenersNotValid -Invalid -
+#HTTPS, TCP and UDP: none is HTTP.
+listener a HTTPS 80 - - | -NoConflicts -UnsupportedProtocol +ResolvedRefs -Invalid -
+listener b TCP 80 - -   | -NoConflicts -UnsupportedProtocol +ResolvedRefs -Invalid -
+listener c UDP 80 - -   | -NoConflicts -UnsupportedProtocol +ResolvedRefs -Invalid -
+gateway                 | -ListenersNotValid -Invalid -
+"#;
+
+// The kinds that listeners name.
+const KINDS: &[u8] = br#"
+#HTTPRoute alone.
+listener a HTTP 80 - HTTPRoute | -NoConflicts +Accepted +ResolvedRefs +Programmed HTTPRoute
+gateway                        | +Accepted +Programmed 127.0.0.1:8080
+#HTTPRoute twice.
+listener a HTTP 80 - HTTPRoute,HTTPRoute | -NoConflicts +Accepted +ResolvedRefs +Programmed HTTPRoute
+gateway                                  | +Accepted +Programmed 127.0.0.1:8080
+#HTTPRoute of another group is another kind: no kind is left, and nothing can be programmed.
+listener a HTTP 80 - x.example.com/HTTPRoute | -NoConflicts +Accepted -InvalidRouteKinds -Invalid -
+gateway                                      | +Accepted -Invalid -
+#HTTPRoute of the empty group is another kind.
+listener a HTTP 80 - /HTTPRoute | -NoConflicts +Accepted -InvalidRouteKinds -Invalid -
+gateway                         | +Accepted -Invalid -
+#Kinds are compared with regard to case.
+listener a HTTP 80 - httproute | -NoConflicts +Accepted -InvalidRouteKinds -Invalid -
+gateway                        | +Accepted -Invalid -
+#A kind that is not supported.
+listener a HTTP 80 - GRPCRoute | -NoConflicts +Accepted -InvalidRouteKinds -Invalid -
+gateway                        | +Accepted -Invalid -
+#The same beside HTTPRoute: HTTPRoute is left.
+listener a HTTP 80 - HTTPRoute,GRPCRoute | -NoConflicts +Accepted -InvalidRouteKinds +Programmed HTTPRoute
+gateway                                  | +Accepted +Programmed 127.0.0.1:8080
+#The same in the other order.
+listener a HTTP 80 - GRPCRoute,HTTPRoute | -NoConflicts +Accepted -InvalidRouteKinds +Programmed HTTPRoute
+gateway                                  | +Accepted +Programmed 127.0.0.1:8080
+#HTTPRoute of another group beside HTTPRoute.
+listener a HTTP 80 - x.example.com/HTTPRoute,HTTPRoute | -NoConflicts +Accepted -InvalidRouteKinds +Programmed HTTPRoute
+gateway                                                | +Accepted +Programmed 127.0.0.1:8080
+#Two kinds that are not supported.
+listener a HTTP 80 - x.example.com/HTTPRoute,GRPCRoute | -NoConflicts +Accepted -InvalidRouteKinds -Invalid -
+gateway                                                | +Accepted -Invalid -
+#HTTPRoute of a listener that is not HTTP is not supported there.
+listener a HTTPS 80 - HTTPRoute | -NoConflicts -UnsupportedProtocol -InvalidRouteKinds -Invalid -
+gateway                         | -ListenersNotValid -Invalid -
+#Nor is any other kind.
+listener a TCP 80 - TCPRoute | -NoConflicts -UnsupportedProtocol -InvalidRouteKinds -Invalid -
+gateway                      | -ListenersNotValid -Invalid -
+#No kinds of a listener that is not HTTP: nothing is named, and nothing supported.
+listener a UDP 80 - - | -NoConflicts -UnsupportedProtocol +ResolvedRefs -Invalid -
+gateway               | -ListenersNotValid -Invalid -
+#Several kinds of a protocol of a domain.
+listener a example.com/own 80 - HTTPRoute,GRPCRoute | -NoConflicts -UnsupportedProtocol -InvalidRouteKinds -Invalid -
+gateway                                             | -ListenersNotValid -Invalid -
+#Kinds play no part in conflicts.
+listener a HTTP 80 - GRPCRoute | +HostnameConflict -HostnameConflict -InvalidRouteKinds -Invalid -
+listener b HTTP 80 - HTTPRoute | +HostnameConflict -HostnameConflict +ResolvedRefs -Invalid HTTPRoute
+gateway                        | -ListenersNotValid -Invalid -
+#All are accepted and one is programmed.
+listener a HTTP 80 - GRPCRoute | -NoConflicts +Accepted -InvalidRouteKinds -Invalid -
+listener b HTTP 81 - -         | -NoConflicts +Accepted +ResolvedRefs +Programmed HTTPRoute
+gateway                        | +Accepted +Programmed 127.0.0.1:8080
+#One is accepted and none programmed.
+listener a HTTP 80 - GRPCRoute | -NoConflicts +Accepted -InvalidRouteKinds -Invalid -
+listener b TCP 81 - -          | -NoConflicts -UnsupportedProtocol +ResolvedRefs -Invalid -
+gateway                        | +ListenersNotValid -Invalid -
+"#;
+
+// Addresses and doors.
+const ADDRESSES: &[u8] = br#"
+#No door.
+listener a HTTP 80 - - | -NoConflicts -PortUnavailable +ResolvedRefs -Invalid HTTPRoute
+gateway                | -ListenersNotValid -AddressNotAssigned -
+#No door: no address is compared.
+address IPAddress 127.0.0.1
+listener a HTTP 80 - - | -NoConflicts -PortUnavailable +ResolvedRefs -Invalid HTTPRoute
+gateway                | -ListenersNotValid -AddressNotAssigned -
+#No door, and an address of another type.
+address Hostname x.example.com
+listener a HTTP 80 - - | -NoConflicts -PortUnavailable +ResolvedRefs -Invalid HTTPRoute
+gateway                | -UnsupportedAddress -AddressNotAssigned -
+#Doors of another name and of another namespace.
+door d/h:80=127.0.0.1:8080
+door e/g:80=127.0.0.2:8080
+listener a HTTP 80 - - | -NoConflicts -PortUnavailable +ResolvedRefs -Invalid HTTPRoute
+gateway                | -ListenersNotValid -AddressNotAssigned -
+#No door and another protocol: UnsupportedProtocol comes before PortUnavailable.
+listener a TCP 80 - - | -NoConflicts -UnsupportedProtocol +ResolvedRefs -Invalid -
+gateway               | -ListenersNotValid -AddressNotAssigned -
+#No door and a conflict: HostnameConflict comes before PortUnavailable.
+listener a HTTP 80 - - | +HostnameConflict -HostnameConflict +ResolvedRefs -Invalid HTTPRoute
+listener b HTTP 80 - - | +HostnameConflict -HostnameConflict +ResolvedRefs -Invalid HTTPRoute
+gateway                | -ListenersNotValid -AddressNotAssigned -
+#A door for another port.
+door d/g:81=127.0.0.1:8080
+listener a HTTP 80 - - | -NoConflicts -PortUnavailable +ResolvedRefs -Invalid HTTPRoute
+gateway                | -ListenersNotValid -Invalid -
+#A door for one port of two.
+door d/g:80=127.0.0.1:8080
+listener a HTTP 80 - - | -NoConflicts +Accepted +ResolvedRefs +Programmed HTTPRoute
+listener b HTTP 81 - - | -NoConflicts -PortUnavailable +ResolvedRefs -Invalid HTTPRoute
+gateway                | +ListenersNotValid +Programmed 127.0.0.1:8080
+#The address of the door.
+door d/g:80=127.0.0.1:8080
+address IPAddress 127.0.0.1
+listener a HTTP 80 - - | -NoConflicts +Accepted +ResolvedRefs +Programmed HTTPRoute
+gateway                | +Accepted +Programmed 127.0.0.1:8080
+#An empty value is none.
+door d/g:80=127.0.0.1:8080
+address IPAddress ""
+listener a HTTP 80 - - | -NoConflicts +Accepted +ResolvedRefs +Programmed HTTPRoute
+gateway                | +Accepted +Programmed 127.0.0.1:8080
+#An absent value.
+door d/g:80=127.0.0.1:8080
+address IPAddress -
+listener a HTTP 80 - - | -NoConflicts +Accepted +ResolvedRefs +Programmed HTTPRoute
+gateway                | +Accepted +Programmed 127.0.0.1:8080
+#Another address.
+door d/g:80=127.0.0.1:8080
+address IPAddress 127.0.0.2
+listener a HTTP 80 - - | -NoConflicts +Accepted +ResolvedRefs -Invalid HTTPRoute
+gateway                | +Accepted -AddressNotUsable -
+#Another network.
+door d/g:80=127.0.0.1:8080
+address IPAddress 10.0.0.1
+listener a HTTP 80 - - | -NoConflicts +Accepted +ResolvedRefs -Invalid HTTPRoute
+gateway                | +Accepted -AddressNotUsable -
+#No dotted address, since a number has a leading zero.
+door d/g:80=127.0.0.1:8080
+address IPAddress 127.0.0.01
+listener a HTTP 80 - - | -NoConflicts +Accepted +ResolvedRefs -Invalid HTTPRoute
+gateway                | +Accepted -AddressNotUsable -
+#A socket is no address.
+door d/g:80=127.0.0.1:8080
+address IPAddress 127.0.0.1:8080
+listener a HTTP 80 - - | -NoConflicts +Accepted +ResolvedRefs -Invalid HTTPRoute
+gateway                | +Accepted -AddressNotUsable -
+#The address of the door, and another.
+door d/g:80=127.0.0.1:8080
+address IPAddress 127.0.0.1
+address IPAddress 127.0.0.9
+listener a HTTP 80 - - | -NoConflicts +Accepted +ResolvedRefs -Invalid HTTPRoute
+gateway                | +Accepted -AddressNotUsable -
+#The address of the door, beside an empty and an absent value.
+door d/g:80=127.0.0.1:8080
+address IPAddress ""
+address IPAddress 127.0.0.1
+address IPAddress -
+listener a HTTP 80 - - | -NoConflicts +Accepted +ResolvedRefs +Programmed HTTPRoute
+gateway                | +Accepted +Programmed 127.0.0.1:8080
+#The address of the door under another type.
+door d/g:80=127.0.0.1:8080
+address Hostname 127.0.0.1
+listener a HTTP 80 - - | -NoConflicts +Accepted +ResolvedRefs -Invalid HTTPRoute
+gateway                | -UnsupportedAddress -Invalid -
+#Another type without a value.
+door d/g:80=127.0.0.1:8080
+address Hostname -
+listener a HTTP 80 - - | -NoConflicts +Accepted +ResolvedRefs -Invalid HTTPRoute
+gateway                | -UnsupportedAddress -Invalid -
+#Types are compared with regard to case.
+door d/g:80=127.0.0.1:8080
+address ipaddress 127.0.0.1
+listener a HTTP 80 - - | -NoConflicts +Accepted +ResolvedRefs -Invalid HTTPRoute
+gateway                | -UnsupportedAddress -Invalid -
+#Another type, and another address: each has its own condition.
+door d/g:80=127.0.0.1:8080
+address Hostname x.example.com
+address IPAddress 127.0.0.9
+listener a HTTP 80 - - | -NoConflicts +Accepted +ResolvedRefs -Invalid HTTPRoute
+gateway                | -UnsupportedAddress -AddressNotUsable -
+#Another address and no listener that is accepted: AddressNotUsable comes before Invalid.
+door d/g:80=127.0.0.1:8080
+address IPAddress 127.0.0.9
+listener a TCP 80 - - | -NoConflicts -UnsupportedProtocol +ResolvedRefs -Invalid -
+gateway               | -ListenersNotValid -AddressNotUsable -
+#Another type and no listener that is accepted: UnsupportedAddress comes before ListenersNotValid.
+door d/g:80=127.0.0.1:8080
+address Hostname -
+listener a TCP 80 - - | -NoConflicts -UnsupportedProtocol +ResolvedRefs -Invalid -
+gateway               | -UnsupportedAddress -Invalid -
+#Another type and one listener of two that is accepted.
+door d/g:80=127.0.0.1:8080
+address Hostname -
+listener a HTTP 80 - - | -NoConflicts +Accepted +ResolvedRefs -Invalid HTTPRoute
+listener b HTTP 81 - - | -NoConflicts -PortUnavailable +ResolvedRefs -Invalid HTTPRoute
+gateway                | -UnsupportedAddress -Invalid -
+#Several doors: the address is that of this Gateway.
+door d/h:80=127.0.0.2:8080
+door d/g:80=127.0.0.3:8080
+door d/g:81=127.0.0.3:8081
+address IPAddress 127.0.0.3
+listener a HTTP 80 - - | -NoConflicts +Accepted +ResolvedRefs +Programmed HTTPRoute
+gateway                | +Accepted +Programmed 127.0.0.3:8080
+#The address of the door of another Gateway.
+door d/h:80=127.0.0.2:8080
+door d/g:80=127.0.0.3:8080
+address IPAddress 127.0.0.2
+listener a HTTP 80 - - | -NoConflicts +Accepted +ResolvedRefs -Invalid HTTPRoute
+gateway                | +Accepted -AddressNotUsable -
+#Several doors: the first is named, whatever its port.
+door d/g:81=127.0.0.3:8081
+door d/g:80=127.0.0.3:8080
+listener a HTTP 80 - - | -NoConflicts +Accepted +ResolvedRefs +Programmed HTTPRoute
+gateway                | +Accepted +Programmed 127.0.0.3:8081
+"#;
+
+fn shown(bytes: &[u8]) -> &str {
+    str::from_utf8(bytes).unwrap_or("")
+}
+
+// A word of a line, counted from 0; it is absent where the line has fewer.
+fn word(line: &[u8], place: usize) -> &[u8] {
+    line.split(|b| *b == b' ').nth(place).unwrap_or(b"-")
+}
+
+fn value(alloc: Global, word: &[u8]) -> Result<Option<Text>, NoMemory> {
+    if word == b"-".as_slice() {
+        return Ok(None);
+    }
+    let given = if word == b"\"\"".as_slice() {
+        b""
+    } else {
+        word
+    };
+    Ok(Some(Text::from_bytes(alloc, given)?))
+}
+
+fn hostname(alloc: Global, word: &[u8]) -> Result<Option<Host>, NoMemory> {
+    if word == b"-".as_slice() {
+        return Ok(None);
+    }
+    let (wild, name) = match word.strip_prefix(b"*.") {
+        Some(rest) => (true, rest),
+        None => (false, word),
+    };
+    let text = Text::from_bytes(alloc, name)?;
+    Ok(Some(Host { wild, text }))
+}
+
+fn kind(alloc: Global, word: &[u8]) -> Result<RouteKind, NoMemory> {
+    let mut parts = word.split(|b| *b == b'/');
+    let first = parts.next().unwrap_or(b"");
+    let (group, kind) = match parts.next() {
+        Some(kind) => (first, kind),
+        None => (b"gateway.networking.k8s.io".as_slice(), first),
+    };
+    let group = Text::from_bytes(alloc, group)?;
+    let kind = Text::from_bytes(alloc, kind)?;
+    Ok(RouteKind { group, kind })
+}
+
+fn kinds(alloc: Global, word: &[u8]) -> Result<Vec<RouteKind>, NoMemory> {
+    let mut kinds = Vec::new(alloc);
+    if word != b"-".as_slice() {
+        for part in word.split(|b| *b == b',') {
+            kinds.push(kind(alloc, part)?)?;
+        }
+    }
+    Ok(kinds)
+}
+
+fn allowed_routes(alloc: Global, word: &[u8]) -> Result<AllowedRoutes, NoMemory> {
+    let kinds = kinds(alloc, word)?;
+    Ok(AllowedRoutes {
+        from: FromNamespaces::Same,
+        selector: None,
+        kinds,
+    })
+}
+
+fn listener(alloc: Global, line: &[u8]) -> Result<Listener, NoMemory> {
+    let name = Text::from_bytes(alloc, word(line, 1))?;
+    let protocol = Text::from_bytes(alloc, word(line, 2))?;
+    let port = if word(line, 3) == b"80".as_slice() {
+        80
+    } else {
+        81
+    };
+    let hostname = hostname(alloc, word(line, 4))?;
+    let allowed_routes = allowed_routes(alloc, word(line, 5))?;
+    Ok(Listener {
+        name,
+        hostname,
+        port,
+        protocol,
+        allowed_routes,
+    })
+}
+
+fn listeners(alloc: Global, case: &[u8]) -> Result<Vec<Listener>, NoMemory> {
+    let mut listeners = Vec::new(alloc);
+    for line in case.split(|b| *b == b'\n') {
+        if line.starts_with(b"listener ") {
+            listeners.push(listener(alloc, line)?)?;
+        }
+    }
+    Ok(listeners)
+}
+
+fn address(alloc: Global, line: &[u8]) -> Result<Address, NoMemory> {
+    let sort = Text::from_bytes(alloc, word(line, 1))?;
+    let value = value(alloc, word(line, 2))?;
+    Ok(Address { sort, value })
+}
+
+fn addresses(alloc: Global, case: &[u8]) -> Result<Vec<Address>, NoMemory> {
+    let mut addresses = Vec::new(alloc);
+    for line in case.split(|b| *b == b'\n') {
+        if line.starts_with(b"address ") {
+            addresses.push(address(alloc, line)?)?;
+        }
+    }
+    Ok(addresses)
+}
+
+fn meta(alloc: Global) -> Result<Meta, NoMemory> {
+    let namespace = Text::of(alloc, "d")?;
+    let name = Text::of(alloc, "g")?;
+    Ok(Meta {
+        key: Key { namespace, name },
+        created: None,
+        generation: 1,
+    })
+}
+
+fn gateway(alloc: Global, case: &[u8]) -> Result<Gateway, NoMemory> {
+    let meta = meta(alloc)?;
+    let gateway_class_name = Text::of(alloc, "c")?;
+    let listeners = listeners(alloc, case)?;
+    let addresses = addresses(alloc, case)?;
+    Ok(Boxed::new(
+        alloc,
+        GatewayFields {
+            meta,
+            gateway_class_name,
+            listeners,
+            addresses,
+        },
+    )?)
+}
+
+fn doors(alloc: Global, case: &[u8]) -> Result<Doors, Fail> {
+    let mut doors = Vec::new(alloc);
+    for line in case.split(|b| *b == b'\n') {
+        if line.starts_with(b"door ") {
+            doors.push(Door::parse(alloc, shown(word(line, 1)))?)?;
+        }
+    }
+    Ok(Doors::new(alloc, doors)?)
+}
+
+fn sign(condition: Condition) -> char {
+    if condition.truth { '+' } else { '-' }
+}
+
+fn push_condition(text: &mut String, condition: Condition) -> Result<(), NoMemory> {
+    text.push(sign(condition))?;
+    text.push_str(condition.reason.text())?;
+    text.push(' ')
+}
+
+fn push_listener(text: &mut String, state: &ListenerState) -> Result<(), NoMemory> {
+    push_condition(text, state.conflicted)?;
+    push_condition(text, state.accepted)?;
+    push_condition(text, state.resolved)?;
+    push_condition(text, state.programmed)?;
+    text.push_str(if state.http { "HTTPRoute\n" } else { "-\n" })
+}
+
+fn push_address(alloc: Global, text: &mut String, address: Option<Socket>) -> Result<(), NoMemory> {
+    match address {
+        Some(socket) => {
+            let printed = socket.print(alloc)?;
+            text.push_str(printed.as_str().unwrap_or(""))
+        }
+        None => text.push('-'),
+    }
+}
+
+fn push_gateway(alloc: Global, text: &mut String, state: &GatewayState) -> Result<(), NoMemory> {
+    push_condition(text, state.accepted)?;
+    push_condition(text, state.programmed)?;
+    push_address(alloc, text, state.address)
+}
+
+// The conditions of a case, a line for each listener and one for the Gateway.
+fn told(alloc: Global, doors: &Doors, case: &[u8]) -> Result<String, NoMemory> {
+    let gateway = gateway(alloc, case)?;
+    let states = listener_states(alloc, &gateway, doors)?;
+    let mut text = String::new(alloc);
+    for state in states.as_slice() {
+        push_listener(&mut text, state)?;
+    }
+    let state = gateway_state(&gateway, doors, &states);
+    push_gateway(alloc, &mut text, &state)?;
+    Ok(text)
+}
+
+// What stands behind `|`.
+fn wanted(line: &[u8]) -> Option<&[u8]> {
+    let mut halves = line.split(|b| *b == b'|');
+    halves.next()?;
+    halves.next().map(|half| half.trim_ascii())
+}
+
+fn is_wanted(case: &[u8], told: &[u8]) -> bool {
+    let told = told.split(|b| *b == b'\n');
+    case.split(|b| *b == b'\n').filter_map(wanted).eq(told)
+}
+
+#[test]
+fn pairs_of_listeners(rt: HostRuntime) -> Result<(), Fail> {
+    let doors = doors(rt.alloc(), DOORS)?;
+    for case in PAIRS.split(|b| *b == b'#').skip(1) {
+        let told = told(rt.alloc(), &doors, case)?;
+        assert!(rt; is_wanted(case, told.as_bytes()), "{}{told}", shown(case));
+    }
+    Ok(())
+}
+
+#[test]
+fn triples_of_listeners(rt: HostRuntime) -> Result<(), Fail> {
+    let doors = doors(rt.alloc(), DOORS)?;
+    for case in TRIPLES.split(|b| *b == b'#').skip(1) {
+        let told = told(rt.alloc(), &doors, case)?;
+        assert!(rt; is_wanted(case, told.as_bytes()), "{}{told}", shown(case));
+    }
+    Ok(())
+}
+
+#[test]
+fn kinds_of_routes(rt: HostRuntime) -> Result<(), Fail> {
+    let doors = doors(rt.alloc(), DOORS)?;
+    for case in KINDS.split(|b| *b == b'#').skip(1) {
+        let told = told(rt.alloc(), &doors, case)?;
+        assert!(rt; is_wanted(case, told.as_bytes()), "{}{told}", shown(case));
+    }
+    Ok(())
+}
+
+#[test]
+fn addresses_and_doors(rt: HostRuntime) -> Result<(), Fail> {
+    for case in ADDRESSES.split(|b| *b == b'#').skip(1) {
+        let doors = doors(rt.alloc(), case)?;
+        let told = told(rt.alloc(), &doors, case)?;
+        assert!(rt; is_wanted(case, told.as_bytes()), "{}{told}", shown(case));
+    }
+    Ok(())
+}
