@@ -1,3 +1,5 @@
 pub mod Applying
 pub mod Cutting
-pub mod Floats
+pub mod Evaluating
+pub mod Plain
+pub mod Tables

@@ -1,10 +1,13 @@
 -- What the program keeps of the lines that it has answered.
-use Rattle.std.specs.Prelude.{◌≡◌, ℕ, ℤ, ◌+◌, List, [], ◌∷◌, length, Option, Result, Ok, filter, string_bytes}
+use Rattle.std.specs.Prelude.{◌≡◌, ℕ, ℤ, ◌+◌, List, [], ◌∷◌, ◌++◌, length, Option, Result, Ok, filter, string_bytes}
+use Rattle.gw_json.specs.declared.refusal.Refusal.{Refusal}
+use Rattle.gw_json.specs.declared.refusal.Refusal.TheVariants.{NoMemory}
+use Rattle.gw_json.specs.Lines.{line_of}
 use Rattle.gw_link.specs.Moments.{TicksInTurn}
 use Rattle.gw_text.specs.model.World.{World, world_of, apply}
 use Rattle.gw_store.specs.Events.{Read, a_change, is_skipped, answer}
-use Rattle.gateward.specs.Outcomes.{Outcome, is_asked, outcome_after, outcome_of}
-use Rattle.gateward.specs.RunText.{refused_text}
+use Rattle.gateward.specs.Outcomes.{Outcome, is_asked, refused_by, outcome_after, outcome_of}
+use Rattle.gateward.specs.RunText.{refused_data, refused_text}
 use Rattle.gateward.specs.declared.report.Report.{Report}
 
 -- The report tells of this outcome.
@@ -43,3 +46,11 @@ pub record Takes (line : List ℕ) (at : ℤ) (old new : Report) : Type 0 where
   pub is : answer old.world.world line ≡ Ok read
   pub world : new.world.world ≡ world_with old.world.world at read
   pub skipped : new.skipped ≡ old.skipped + skips read
+
+-- The line of this number is refused: it is printed and counted, and the world stays.
+pub record Refuses (number : ℕ) (e : Refusal) (old new : Report) : Type 0 where
+  pub named : e ≡ NoMemory → ⊥
+  pub text : string_bytes new.text ≡ string_bytes old.text ++ line_of (refused_data (refused_by number e))
+  pub refused : new.refused ≡ old.refused + 1
+  pub world : new.world.world ≡ old.world.world
+  pub skipped : new.skipped ≡ old.skipped

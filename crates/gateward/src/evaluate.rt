@@ -1,5 +1,6 @@
 //! The statuses of a world, evaluated from all the objects that are held.
-ghost use Rattle.std.specs.Prelude.{◌≡◌, IfOk};
+ghost use Rattle.std.specs.Prelude.{◌≡◌, IfOk, map};
+ghost use Rattle.gw_listener.specs.Seen.{seen_state};
 ghost use Rattle.gw_status.specs.Seen.{seen_condition};
 ghost use Rattle.gw_text.specs.model.Statuses as statuses;
 
@@ -7,8 +8,8 @@ use crate::start::Setting;
 use gw_listener::{ListenerState, gateway_state, listener_states};
 use gw_objects::{Gateway, GatewayClass, Listener};
 use gw_status::{
-    ClassStatus, ClassStatuses, CondKind, Condition, GatewayStatus, GatewayStatuses, ListenerStatus,
-    ListenerStatuses, Reason, Statuses,
+    ClassStatus, ClassStatuses, CondKind, Condition, GatewayStatus, GatewayStatuses,
+    ListenerStatus, ListenerStatuses, Reason, Statuses,
 };
 use gw_store::World;
 use gw_text::{Doors, Key, NoMemory, Text};
@@ -20,6 +21,7 @@ fn is_ours(controller: &Text, class: &GatewayClass) -> bool
     class.controller_name.bytes() == controller.bytes()
 }
 
+#[tactic(auto, unfolding(gw_status::specs::Seen::seen_reason))]
 fn class_accepted(class: &GatewayClass) -> Condition
     ensures { seen_condition result ≡ statuses.class_accepted_of class.now }
 {
@@ -81,7 +83,7 @@ fn listener_status(
     listener: &Listener,
     state: &ListenerState,
 ) -> Result<ListenerStatus, NoMemory>
-    ensures { IfOk result (λ status. status ≡ statuses.listener_status_of (listener.now, state.now)) }
+    ensures { IfOk result (λ status. status ≡ statuses.listener_status_of (listener.now, seen_state state.now)) }
 {
     Ok(ListenerStatus {
         name: listener.name.copy(alloc)?,
@@ -98,7 +100,7 @@ fn listener_statuses(
     listeners: &[Listener],
     states: &[ListenerState],
 ) -> Result<ListenerStatuses, NoMemory>
-    ensures { IfOk result (λ all. all ≡ statuses.listener_statuses_of listeners.now states.now) }
+    ensures { IfOk result (λ all. all ≡ statuses.listener_statuses_of listeners.now (map seen_state states.now)) }
 {
     let mut all = ListenerStatuses::new(alloc);
     'listeners: for (listener, state) in listeners.iter().zip(states) {

@@ -1,13 +1,16 @@
-// gateward: a Gateway API controller. `gateward status` reads watch events, one JSON object a line, and prints
-// how many Routes are attached at each listener.
+//! gateward: a Gateway API controller. `gateward status` reads watch events, one JSON object a line, and prints the
+//! statuses of the objects that are held after them.
 #![tactic(auto)]
 
+mod evaluate;
 mod lines;
 mod outside;
 mod print;
 mod report;
 mod run;
+mod start;
 mod status;
+mod words;
 
 use outside::{StdSink, StdSource, WallClock};
 use std::alloc::AllocError;
@@ -17,7 +20,7 @@ use std::rt::Env;
 use std::{env, io};
 
 // The words that follow the program's name. Words that aren't UTF-8 are no command, and so none at all.
-fn words(rt: &(impl Env + AllocGlobal)) -> Result<Vec<String>, AllocError> {
+fn given_words(rt: &(impl Env + AllocGlobal)) -> Result<Vec<String>, AllocError> {
     let mut words = Vec::new(rt.alloc());
     match env::args(rt) {
         Ok(args) => {
@@ -33,7 +36,7 @@ fn words(rt: &(impl Env + AllocGlobal)) -> Result<Vec<String>, AllocError> {
 
 fn main(rt: HostRuntime) -> ExitCode {
     let alloc = rt.alloc();
-    let Ok(words) = words(&rt) else {
+    let Ok(words) = given_words(&rt) else {
         return ExitCode::from(6);
     };
     let mut source = StdSource::new(rt.stdin());

@@ -14,9 +14,7 @@ pub fn refused_value(alloc: Global, line: u64, refusal: &Refusal) -> Result<Valu
 {
     let number = u64::from(refusal.number());
     match refusal.path() {
-        Some(path) => {
-            json!(in alloc; {"line": line, "path": path.as_str(), "refusal": number})
-        }
+        Some(path) => { json!(in alloc; {"line": line, "path": path.as_str(), "refusal": number}) }
         None => json!(in alloc; {"line": line, "refusal": number}),
     }
 }

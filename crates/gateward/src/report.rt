@@ -1,14 +1,11 @@
 ghost use Rattle.std.specs.Prelude.{◌≡◌, ◌+◌, ◌<◌, ◌≤◌, ◌^◌, [], ◌∷◌, ◌++◌, false, length, IfOk, IfErr, OnOk, OnErr, string_bytes};
-ghost use Rattle.gw_json.specs.Lines.{line_of};
 ghost use Rattle.gw_json.specs.Words.{Fails};
 ghost use Rattle.gw_text.specs.model.World.{is_full, apply};
 ghost use Rattle.gw_link.specs.declared.source.TheConstants.{MOST_INPUT};
 ghost use Rattle.gw_store.specs.Events.{a_change, answer, taken};
 ghost use Rattle.gw_store.specs.SeenEvents.{seen_event};
 ghost use Rattle.gateward.specs.Lines.{lines_of, lines_left};
-ghost use Rattle.gateward.specs.Outcomes.{refused_by};
-ghost use Rattle.gateward.specs.RunText.{refused_data};
-ghost use Rattle.gateward.specs.Reports.{Applies, IsReport, Takes};
+ghost use Rattle.gateward.specs.Reports.{Applies, IsReport, Takes, Refuses};
 
 use crate::lines::{first_line, is_blank};
 use crate::print::refused_value;
@@ -96,8 +93,7 @@ fn take_line(alloc: Global, report: &mut Report, line: &[u8], now: Second) -> Re
 
 // All that may fail comes before the world is changed.
 fn change(world: &mut World, event: Event, now: Second) -> Result<(), Refusal>
-    ensures room { OnOk result (is_full world.old.world (seen_event event) ≡ false) }
-    ensures ok { OnOk result (world.new.world ≡ apply world.old.world (record { event = seen_event event; at = now })) }
+    ensures ok { OnOk result ((is_full world.old.world (seen_event event) ≡ false) × (world.new.world ≡ apply world.old.world (record { event = seen_event event; at = now }))) }
     ensures err { IfErr result (λ e. Fails e (taken world.old.world (a_change (seen_event event)))) }
     ensures kept { OnErr result (world.new.world ≡ world.old.world) }
 {
@@ -114,11 +110,10 @@ fn refuse(
     refusal: &Refusal,
 ) -> Result<(), NoMemory>
     requires { report.old.refused < 2 ^ 63 }
-    ensures text { OnOk result (string_bytes report.new.text ≡ string_bytes report.old.text ++ line_of (refused_data (refused_by number refusal.now))) }
+    ensures ok { OnOk result (Refuses number refusal.now report.old report.new) }
+    ensures kept { report.new.world ≡ report.old.world }
     ensures counted { OnOk result (report.new.refused ≡ report.old.refused + 1) }
-    ensures world { report.new.world ≡ report.old.world }
     ensures skipped { report.new.skipped ≡ report.old.skipped }
-    ensures named { OnOk result (¬ (refusal.now ≡ Refusal.NoMemory)) }
 {
     if matches!(refusal, Refusal::NoMemory) {
         return Err(NoMemory);

@@ -81,12 +81,12 @@ fn fault<K: Sink>(sink: &mut K, line: &[u8], exit: u8) -> u8
 }
 
 fn finish<K: Sink>(sink: &mut K, status: &StatusText) -> u8
-    ensures whole { result < 2 → (Takes (K.written sink.old) (string_bytes status.now.text) (K.written sink.new)) × (result ≡ (if status.now.refused then 1 else 0)) }
-    ensures front { result ≡ 4 → HasRisen (K.faults sink.old) (K.faults sink.new) × TakesPart (K.written sink.old) (string_bytes status.now.text) (K.written sink.new) }
+    ensures whole { result < 2 → (Takes (K.written sink.old) (status.now.text) (K.written sink.new)) × (result ≡ (if status.now.refused then 1 else 0)) }
+    ensures front { result ≡ 4 → HasRisen (K.faults sink.old) (K.faults sink.new) × TakesPart (K.written sink.old) (status.now.text) (K.written sink.new) }
     ensures exits { (result < 2) ⊎ (result ≡ 4) }
     ensures later { K.faults sink.old ≤ K.faults sink.new }
 {
-    match write_all(sink, status.text.as_bytes()) {
+    match write_all(sink, status.text.bytes()) {
         Ok(()) => u8::from(status.refused),
         Err(_) => 4,
     }

@@ -1,27 +1,30 @@
-ghost use Rattle.std.specs.Prelude.{◌≡◌, ◌≤◌, length, IfOk, string_bytes};
+ghost use Rattle.std.specs.Prelude.{◌≡◌, ◌≤◌, ◌++◌, length, IfOk, string_bytes};
+ghost use Rattle.gw_status.specs.StatusText.{statuses_text};
+ghost use Rattle.gw_text.specs.model.Statuses.{statuses_of};
 ghost use Rattle.gw_link.specs.declared.source.TheConstants.{MOST_INPUT};
+ghost use Rattle.gw_json.specs.Lines.{line_of};
+ghost use Rattle.gateward.specs.RunText.{summary_data};
 ghost use Rattle.gateward.specs.Statuses.{IsStatusText};
 
 use crate::evaluate::statuses;
 use crate::print::summary_value;
-use crate::report::apply_lines;
+use crate::report::{Report, apply_lines};
 use crate::start::Setting;
 use gw_json::push_line;
 use gw_link::{Clock, MOST_INPUT};
 use gw_status::write_statuses;
-use gw_text::NoMemory;
+use gw_text::{NoMemory, Text};
 use std::alloc::Global;
 
 /// What `status` prints for an input.
 #[derive(Drop)]
 pub struct StatusText {
-    pub text: String,
+    pub text: Text,
     /// Whether a line was refused.
     pub refused: bool,
 }
 
 /// The text of the statuses of the objects that are held after the lines of `input`.
-#[tactic(auto, unfolding(crate::specs::RunText::outcome_text))]
 pub fn status<C: Clock>(
     alloc: Global,
     setting: &Setting,
@@ -31,14 +34,37 @@ pub fn status<C: Clock>(
     requires { length input.now ≤ MOST_INPUT }
     ensures { IfOk result (IsStatusText setting.now input.now (C.moments clock.old)) }
 {
-    let mut report = apply_lines(alloc, input, clock)?;
+    let report = apply_lines(alloc, input, clock)?;
+    let refused = report.refused > 0;
+    let text = report_text(alloc, setting, report)?;
+    Ok(StatusText { text, refused })
+}
+
+// The refused lines, the statuses, the summary.
+fn report_text(alloc: Global, setting: &Setting, report: Report) -> Result<Text, NoMemory>
+    ensures { IfOk result (λ text. text ≡ string_bytes report.text
+        ++ statuses_text (statuses_of setting.now.doors setting.now.controller report.world.world)
+        ++ line_of (summary_data report.world.world.changes report.refused report.skipped)) }
+{
     let statuses = statuses(alloc, setting, &report.world)?;
-    let text = write_statuses(alloc, &statuses)?;
-    report.text.push_str(text.as_str())?;
-    let summary = summary_value(alloc, report.world.changes(), report.refused, report.skipped)?;
-    push_line(alloc, &mut report.text, &summary)?;
-    Ok(StatusText {
-        text: report.text,
-        refused: report.refused > 0,
-    })
+    let statuses = write_statuses(alloc, &statuses)?;
+    let summary = summary_line(alloc, &report)?;
+    let mut text = report.text.into_bytes();
+    text.extend_from_slice(statuses.bytes())?;
+    text.extend_from_slice(summary.as_bytes())?;
+    Ok(Text::from_vec(text))
+}
+
+fn summary_line(alloc: Global, report: &Report) -> Result<String, NoMemory>
+    ensures { IfOk result (λ line. string_bytes line ≡ line_of (summary_data report.now.world.world.changes report.now.refused report.now.skipped)) }
+{
+    let value = summary_value(
+        alloc,
+        report.world.changes(),
+        report.refused,
+        report.skipped,
+    )?;
+    let mut line = String::new(alloc);
+    push_line(alloc, &mut line, &value)?;
+    Ok(line)
 }

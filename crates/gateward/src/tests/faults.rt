@@ -1,14 +1,14 @@
 // Every read and every write failing in turn, a sink that takes a byte at a time, and an input that is too long.
-use super::{CLASS, GATEWAY, ROUTE, Ran, joined, run_on, run_over};
+use super::{CLASS, Ran, joined, run_on, run_over};
 use gw_link::{MemSink, MemSource};
 use std::alloc::{AllocError, Global};
-use std::test::Fail;
+use std::test::*;
 
-const TEXT: &[u8; 150] =
-    b"{\"kind\":\"Gateway\",\"name\":\"g\",\"namespace\":\"default\",\"status\":{\"listeners\":[{\"attachedRoutes\":1,\"name\":\"http\"}]}}\n{\"changes\":3,\"refused\":0,\"skipped\":0}\n";
+const TEXT: &[u8; 155] =
+    b"{\"kind\":\"GatewayClass\",\"name\":\"c\",\"status\":{\"conditions\":[{\"reason\":\"Accepted\",\"status\":\"True\",\"type\":\"Accepted\"}]}}\n{\"changes\":1,\"refused\":0,\"skipped\":0}\n";
 
 fn source_failing(alloc: Global, read: u64) -> Result<MemSource, AllocError> {
-    let input = joined(alloc, &[CLASS, GATEWAY, ROUTE])?;
+    let input = joined(alloc, &[CLASS])?;
     let fails = [read].to_vec(alloc)?;
     Ok(MemSource::new(input, fails).at_most(100))
 }
@@ -20,8 +20,8 @@ fn sink_failing(alloc: Global, write: u64) -> Result<MemSink, AllocError> {
 
 #[test]
 fn each_read_fails_in_turn(rt: HostRuntime) -> Result<(), Fail> {
-    // Six pieces of at most 100 bytes, and the read that comes to the end.
-    for n in 0..7 {
+    // Two pieces of at most 100 bytes, and the read that comes to the end.
+    for n in 0..3 {
         let sink = MemSink::new(rt.alloc(), Vec::new(rt.alloc()));
         let ran = run_over(rt.alloc(), "status", source_failing(rt.alloc(), n)?, sink)?;
         assert_eq!(rt; ran.status, 3, "read {n}");
@@ -29,13 +29,13 @@ fn each_read_fails_in_turn(rt: HostRuntime) -> Result<(), Fail> {
         assert_eq!(rt; ran.sink.written(), b"{\"fault\":\"read\"}\n".as_slice());
     }
     let sink = MemSink::new(rt.alloc(), Vec::new(rt.alloc()));
-    let ran = run_over(rt.alloc(), "status", source_failing(rt.alloc(), 7)?, sink)?;
+    let ran = run_over(rt.alloc(), "status", source_failing(rt.alloc(), 3)?, sink)?;
     assert_eq!(rt; ran.status, 0, "there is no further read");
     Ok(())
 }
 
 fn written_until(alloc: Global, write: u64) -> Result<Ran, AllocError> {
-    let input = joined(alloc, &[CLASS, GATEWAY, ROUTE])?;
+    let input = joined(alloc, &[CLASS])?;
     run_over(
         alloc,
         "status",

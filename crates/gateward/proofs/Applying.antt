@@ -1,0 +1,130 @@
+-- What a line does.
+use Rattle.std.proofs.Common.{◌≡◌, ℕ, ℤ, ◌+◌, Bool, true, false, not, List, [], ◌∷◌, ◌++◌, length, Option, None, Some, Result, Ok, Err, refl, sym, ap, arith, append-nil, append_assoc, ◌∙◌, filter, length-append, cond, IfSome, Bor, ◌<◌, ◌≤◌, fold, flat_map, string_bytes}
+use Rattle.std.specs.Option.{option_copied}
+use Rattle.std.proofs.lemmas.List.Elements.{filter-append}
+use Rattle.gw_json.specs.declared.refusal.Refusal.{Refusal}
+use Rattle.gw_json.specs.declared.refusal.Refusal.TheVariants.{NotJson, NotEvent, Missing, WrongType, BadValue, TooLong, Full, NoMemory}
+use Rattle.gw_json.specs.Lines.{line_of}
+use Rattle.gw_json.specs.Words.{Fails}
+use Rattle.gw_text.specs.model.Objects.{Event, Change}
+use Rattle.gw_text.specs.model.World.{World, nothing, is_full, apply, world_of, after_changes}
+use Rattle.gw_link.specs.Moments.{Ticks, TicksInTurn}
+use Rattle.gw_store.specs.Events.{Read, a_change, is_skipped, read_of, answer}
+use Rattle.gateward.specs.Lines.{is_blank}
+use Rattle.gateward.specs.Outcomes.{Outcome, Refused, is_asked, refused_by, answered, outcome_with, outcome_after}
+use Rattle.gateward.specs.RunText.{refused_data, refused_text, summary_data, outcome_text}
+use Rattle.gateward.specs.Starts.{Setting}
+use Rattle.gw_status.specs.StatusText.{statuses_text}
+use Rattle.gw_text.specs.model.Statuses.{statuses_of}
+use Rattle.gateward.specs.Reports.{Tells, Applies, Takes, Refuses, world_with, skips}
+use Rattle.gateward.specs.declared.report.Report.{Report}
+
+-- a refusal that isn't want of memory is the line's
+pub fails_is : {Y : Type 0} (e : Refusal) (read : Result Y Refusal) → (e ≡ NoMemory → ⊥) → Fails e read → read ≡ Err e
+fails_is NotJson read other fails = fails
+fails_is NotEvent read other fails = fails
+fails_is (Missing path) read other fails = fails
+fails_is (WrongType path) read other fails = fails
+fails_is (BadValue path) read other fails = fails
+fails_is (TooLong path) read other fails = fails
+fails_is Full read other fails = fails
+fails_is NoMemory read other fails = absurd (other refl)
+
+-- a change that finds room
+pub answers_change : (w : World) (line : List ℕ) (event : Event) → read_of line ≡ Ok (a_change event) → is_full w event ≡ false → answer w line ≡ Ok (a_change event)
+unfolding answer
+answers_change w line event read room = rw (read, room) refl
+
+-- the world of one change more
+world_after : (w : World) (cs : List Change) (c : Change) → after_changes w (cs ++ c ∷ []) ≡ apply (after_changes w cs) c
+world_after w [] c = refl
+world_after w (d ∷ cs) c = world_after (apply w d) cs c
+
+-- each change counts
+changes_count : (w : World) (cs : List Change) → (after_changes w cs).changes ≡ w.changes + length cs
+changes_count w [] = omega arith
+changes_count w (c ∷ cs) = omega (arith, changes_count (apply w c) cs)
+
+pub changes_all : (cs : List Change) → (world_of cs).changes ≡ length cs
+changes_all cs = omega (arith, changes_count nothing cs)
+
+-- the text of one refused line more
+refused_text-more : (rs : List Refused) (r : Refused) → refused_text (rs ++ r ∷ []) ≡ refused_text rs ++ line_of (refused_data r)
+refused_text-more [] r = append-nil (line_of (refused_data r))
+refused_text-more (q ∷ rs) r = rw (refused_text-more rs r) (sym (append_assoc (line_of (refused_data q)) (refused_text rs) (line_of (refused_data r))))
+
+module _ (number : ℕ) (line : List ℕ) (now : ℤ) {before after : Option (List ℤ)} (asked : is_blank line ≡ false) (ticks : Ticks before now after) where
+  applies_by : (old new : Report) → ((o : Outcome) → Tells o old → Tells (answered o (record { number = number; line = line; at = now })) new) → Applies number (line ∷ []) before after old new
+  applies_by old new tells = record { moments = now ∷ []; asked = (after, (ticks, refl)); each = rw asked refl; tells = λ o told. rw asked (tells o told) }
+
+  -- one that is taken
+  pub applies_taken : (old new : Report) → string_bytes new.text ≡ string_bytes old.text → new.refused ≡ old.refused → Takes line now old new → Applies number (line ∷ []) before after old new
+  applies_taken old new text refused takes = applies_by old new (λ o told. rw (← told.world, takes.is) (tells_taken o told takes.read takes.world takes.skipped))
+    where
+      tells_taken : (o : Outcome) → Tells o old → (read : Read) → new.world.world ≡ world_with old.world.world now read → new.skipped ≡ old.skipped + skips read → Tells (outcome_with o (record { number = number; line = line; at = now }) (Ok read)) new
+      tells_taken o told (a_change event) world skipped = record {
+        world = world ∙ ap (λ w. apply w (record { event = event; at = now })) told.world ∙ sym (world_after _ o.changes _);
+        text = text ∙ told.text;
+        refused = refused ∙ told.refused;
+        skipped = omega (arith, skipped, told.skipped);
+      }
+      tells_taken o told is_skipped world skipped = record {
+        world = world ∙ told.world;
+        text = text ∙ told.text;
+        refused = refused ∙ told.refused;
+        skipped = omega (arith, skipped, told.skipped);
+      }
+
+  -- one that is refused
+  pub applies_refused : (old mid new : Report) (e : Refusal) → answer old.world.world line ≡ Err e → mid.world.world ≡ old.world.world → mid.skipped ≡ old.skipped → string_bytes mid.text ≡ string_bytes old.text → mid.refused ≡ old.refused → Refuses number e mid new → Applies number (line ∷ []) before after old new
+  applies_refused old mid new e is world skipped text refused done = applies_by old new (λ o told. rw (← told.world, is) (record {
+    world = done.world ∙ world ∙ told.world;
+    text = done.text ∙ ap (λ t. t ++ line_of (refused_data (refused_by number e))) (text ∙ told.text) ∙ sym (refused_text-more o.refused _);
+    refused = rw length-append (omega (arith, done.refused, refused, told.refused));
+    skipped = done.skipped ∙ skipped ∙ told.skipped;
+  }))
+
+-- a clock that was asked in turn is asked on
+asked_on : (before between after : Option (List ℤ)) (first second : List ℤ) → TicksInTurn before first between → TicksInTurn between second after → TicksInTurn before (first ++ second) after
+asked_on before between after [] second here later = rw (← here) later
+asked_on before between after (now ∷ first) second here later = (here.0, (here.1.0, asked_on here.0 between after first second here.1.1 later))
+
+-- what comes of one line more
+outcome_more : (o : Outcome) (number : ℕ) (line : List ℕ) (lines : List (List ℕ)) (first second : List ℤ) → length first ≡ length (filter is_asked (line ∷ [])) → outcome_after o number (line ∷ lines) (first ++ second) ≡ outcome_after (outcome_after o number (line ∷ []) first) (number + 1) lines second
+outcome_more o number line lines first second each = elim (is_asked line) as (λ b. is_asked line ≡ b → outcome_after o number (line ∷ lines) (first ++ second) ≡ outcome_after (outcome_after o number (line ∷ []) first) (number + 1) lines second) [
+  | true ↦ λ asked. more_asked asked first (rw asked at each)
+  | false ↦ λ blank. more_blank blank first (rw blank at each)
+] refl
+  where
+    more_asked : is_asked line ≡ true → (ms : List ℤ) → length ms ≡ 1 → outcome_after o number (line ∷ lines) (ms ++ second) ≡ outcome_after (outcome_after o number (line ∷ []) ms) (number + 1) lines second
+    more_asked asked [] each = absurd (omega arith)
+    more_asked asked (now ∷ []) each = rw asked refl
+    more_asked asked (now ∷ then ∷ ms) each = absurd (omega arith)
+
+    more_blank : is_asked line ≡ false → (ms : List ℤ) → length ms ≡ 0 → outcome_after o number (line ∷ lines) (ms ++ second) ≡ outcome_after (outcome_after o number (line ∷ []) ms) (number + 1) lines second
+    more_blank blank [] each = rw blank refl
+    more_blank blank (now ∷ ms) each = absurd (omega arith)
+
+-- a line, and then the others
+pub applies_more : (number : ℕ) (line : List ℕ) (lines : List (List ℕ)) (before between after : Option (List ℤ)) (old mid new : Report) → Applies number (line ∷ []) before between old mid → Applies (number + 1) lines between after mid new → Applies number (line ∷ lines) before after old new
+applies_more number line lines before between after old mid new here later = record {
+  moments = here.moments ++ later.moments;
+  asked = asked_on before between after here.moments later.moments here.asked later.asked;
+  each = rw (length-append, here.each, later.each) (sym (ap length (filter-append is_asked (line ∷ []) lines) ∙ length-append _ _));
+  tells = λ o told. rw (outcome_more o number line lines here.moments later.moments here.each) (later.tells _ (here.tells o told));
+}
+
+-- how many bytes are left, one more being counted for the line that has no line feed
+abbrev pub left_size : Option (List ℕ) → ℕ
+left_size None = 0
+left_size (Some rest) = length rest + 1
+
+pub left_size-shorter : (left : Option (Bor (List ℕ))) (text : List ℕ) → IfSome left (λ rest. length rest.now < length text) → left_size (option_copied left) ≤ length text
+left_size-shorter None text shorter = omega arith
+left_size-shorter (Some rest) text shorter = omega arith
+
+-- what a report tells is the text of its outcome
+pub text_told : (setting : Setting) (o : Outcome) (report : Report) → Tells o report →
+    string_bytes report.text ++ statuses_text (statuses_of setting.doors setting.controller report.world.world) ++ line_of (summary_data report.world.world.changes report.refused report.skipped) ≡ outcome_text setting o
+unfolding outcome_text
+text_told setting o report told = rw (told.text, told.world, told.refused, told.skipped, changes_all o.changes) refl

@@ -1,0 +1,14 @@
+-- The report tells of all lines.
+use Rattle.std.proofs.Common.{◌∙◌, ap, nat_lt}
+use Rattle.gateward.proofs.Applying.{text_told}
+use Rattle.gateward.proofs.status.status.Goals as goal
+
+pub returns : goal.returns
+returns g c =
+    let report = c.in_ok-report.ensures in
+    record {
+      moments = report.moments;
+      asked = record { after = _; asked = report.asked; each = report.each };
+      text = c.in_ok-text.ensures ∙ text_told c.args.setting.now _ _ report.tells;
+      refused = ap (λ n. nat_lt 0 n) report.tells.refused;
+    }

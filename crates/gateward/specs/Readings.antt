@@ -1,0 +1,17 @@
+-- What a call answers that reads words.
+use Rattle.std.specs.Prelude.{◌≡◌, Option, None, Some, Result, Ok, Err}
+use Rattle.gateward.specs.declared.words.UsageFault.{UsageFault}
+use Rattle.gateward.specs.declared.words.UsageFault.TheVariants.{Usage, NoMemory}
+use Rattle.gateward.specs.declared.words.Command.{Command as Read}
+use Rattle.gateward.specs.declared.words.Command.TheVariants.{Status}
+use Rattle.gateward.specs.Words.{Command, status}
+
+-- What the words give, unless memory ran out; Usage only where they give nothing.
+abbrev pub Reads : {X Y : Type 0} → (X → Y) → Option Y → Result X UsageFault → Type 0
+Reads view given (Ok x) = given ≡ Some (view x)
+Reads view given (Err Usage) = given ≡ None
+Reads view given (Err NoMemory) = Unit {0}
+
+-- A command as contracts see it.
+abbrev pub seen : Read → Command
+seen (Status words) = status words

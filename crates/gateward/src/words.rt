@@ -1,0 +1,182 @@
+ghost use Rattle.std.specs.Prelude.{◌≡◌, true, IfOk, map, option_map, string_bytes};
+ghost use Rattle.clap.specs.Words.{app_of, all_of, first_of, found_of, is_simple, rows_of};
+ghost use Rattle.clap.specs.Faults.{is_simple_and_free};
+ghost use Rattle.gateward.specs.Readings.{Reads, seen};
+ghost use Rattle.gw_text.specs.model.Doors.{door_of};
+ghost use Rattle.gateward.specs.Plain.{ReadsPlain};
+ghost use Rattle.gateward.specs.Words as words_of;
+
+use clap::error::ErrorKind;
+use clap::{Arg, ArgAction, ArgMatches};
+use gw_text::{Door, Text, TextFault};
+use std::alloc::{AllocError, AllocFailed, Global};
+use std::marker::Model;
+
+/// The controller whose GatewayClasses are this program's, where the words name no other.
+pub const DEFAULT_CONTROLLER: &str = "gateward.example/controller";
+
+/// Why words are not read.
+#[derive(Clone, Copy, Debug, PartialEq, Eq, Drop)]
+pub enum UsageFault {
+    /// They name no command, or the command doesn't take them.
+    Usage,
+    /// Memory ran out.
+    NoMemory,
+}
+
+impl From<AllocError> for UsageFault {
+    ghost use Rattle.gateward.specs.declared.words.UsageFault.TheVariants.{NoMemory as Starved};
+
+    ghost from_gives = { λ _ e. e ≡ Starved };
+
+    fn from(_error: AllocError) -> UsageFault {
+        UsageFault::NoMemory
+    }
+}
+
+impl<T: Drop> From<AllocFailed<T>> for UsageFault {
+    ghost use Rattle.gateward.specs.declared.words.UsageFault.TheVariants.{NoMemory as Starved};
+
+    ghost from_gives = { λ _ e. e ≡ Starved };
+
+    fn from(_error: AllocFailed<T>) -> UsageFault {
+        UsageFault::NoMemory
+    }
+}
+
+/// What `status` is given: `[--controller TEXT] [DOOR]...`.
+#[derive(Drop)]
+pub struct StatusWords {
+    /// The controller of the GatewayClasses that are this program's.
+    pub controller: Text,
+    /// The DOORs, in the order in which they are given.
+    pub doors: Vec<Door>,
+}
+
+impl Model for StatusWords {
+    ghost use Rattle.gateward.specs.Words.{StatusWords as Plain};
+
+    ghost Value = { Plain };
+
+    ghost view = { λ s. record { controller = s.controller; doors = s.doors.items } };
+}
+
+/// A command with what it is given.
+#[derive(Drop)]
+pub enum Command {
+    /// Prints the statuses of the objects that lines of events put.
+    Status(StatusWords),
+}
+
+/// The command of the words that follow the program's name. Help and the version are usage faults too.
+#[tactic(auto, using(crate::proofs::Plain::plain_is_read))]
+pub fn read_words(alloc: Global, words: &[String]) -> Result<Command, UsageFault>
+    ensures value { Reads seen (words_of.command_of (map string_bytes words.now)) result }
+    ensures plain { ReadsPlain (map string_bytes words.now) }
+{
+    match words {
+        [name, ..] if name.as_str() == "status" => Ok(Command::Status(read_status(alloc, words)?)),
+        _ => Err(UsageFault::Usage),
+    }
+}
+
+#[tactic(auto, unfolding(crate::specs::Words::status_of))]
+fn read_status(alloc: Global, words: &[String]) -> Result<StatusWords, UsageFault>
+    ensures { Reads (λ s. s) (words_of.status_of (map string_bytes words.now)) result }
+{
+    let matches = matches_for(status_command(alloc)?, words)?;
+    status_words(alloc, &matches)
+}
+
+fn status_command<'a>(alloc: Global) -> Result<clap::Command<'a>, AllocError>
+    ensures { IfOk result (λ c. app_of c ≡ words_of.status_app) }
+{
+    let controller = Arg::new(alloc, "controller")
+        .long("controller")
+        .action(ArgAction::Set);
+    let door = Arg::new(alloc, "door").action(ArgAction::Append);
+    clap::Command::new(alloc, "status")
+        .arg(controller)?
+        .arg(door)
+}
+
+// What the command finds in the words.
+#[tactic(auto, unfolding(crate::specs::Words::found_in))]
+fn matches_for<'a>(
+    command: clap::Command<'a>,
+    words: &'a [String],
+) -> Result<ArgMatches<'a>, UsageFault>
+    requires simple { is_simple (app_of command) ≡ true }
+    requires free { is_simple_and_free (app_of command) ≡ true }
+    ensures { Reads (λ m. rows_of (found_of m)) (words_of.found_in (app_of command.entry) (map string_bytes words.entry.now)) result }
+{
+    match command.try_get_matches_from(words) {
+        Ok(matches) => Ok(matches),
+        Err(error) => match error.kind() {
+            ErrorKind::OutOfMemory => Err(UsageFault::NoMemory),
+            _ => Err(UsageFault::Usage),
+        },
+    }
+}
+
+#[tactic(auto, unfolding(crate::specs::Words::status_in))]
+fn status_words(alloc: Global, matches: &ArgMatches<'_>) -> Result<StatusWords, UsageFault>
+    ensures { Reads (λ s. s) (words_of.status_in (rows_of (found_of matches.now))) result }
+{
+    let controller = controller(alloc, matches)?;
+    let doors = doors(alloc, matches)?;
+    Ok(StatusWords { controller, doors })
+}
+
+fn controller(alloc: Global, matches: &ArgMatches<'_>) -> Result<Text, AllocError>
+    ensures { IfOk result (λ c. c ≡ words_of.controller_in (rows_of (found_of matches.now))) }
+{
+    let controller = value_of(matches, "controller").unwrap_or(DEFAULT_CONTROLLER);
+    Text::of(alloc, controller)
+}
+
+fn doors(alloc: Global, matches: &ArgMatches<'_>) -> Result<Vec<Door>, UsageFault>
+    ensures { Reads (λ v. v.items) (words_of.doors_of (words_of.doors_in (rows_of (found_of matches.now)))) result }
+{
+    match values_of(matches, "door") {
+        Some(doors) => each_door(alloc, doors),
+        None => Ok(Vec::new(alloc)),
+    }
+}
+
+// The first value of an argument.
+fn value_of<'a>(matches: &ArgMatches<'a>, name: &str) -> Option<&'a str>
+    ensures { option_map (λ s. s.now) result ≡ first_of name.now (rows_of (found_of matches.now)) }
+{
+    matches.get_str(name)
+}
+
+// All values of an argument.
+fn values_of<'m, 'a>(matches: &'m ArgMatches<'a>, name: &str) -> Option<&'m [&'a str]>
+    ensures { option_map (λ s. map (λ v. v.now) s.now) result ≡ all_of name.now (rows_of (found_of matches.now)) }
+{
+    matches.get_strs(name)
+}
+
+fn each_door(alloc: Global, words: &[&str]) -> Result<Vec<Door>, UsageFault>
+    ensures { Reads (λ v. v.items) (words_of.doors_of (map (λ word. word.now) words.now)) result }
+{
+    let mut doors = Vec::new(alloc);
+    'words: for word in words {
+        doors.push(read_door(alloc, word)?)?;
+    }
+    Ok(doors)
+}
+
+fn read_door(alloc: Global, word: &str) -> Result<Door, UsageFault>
+    ensures { Reads (λ door. door) (door_of word.now) result }
+{
+    match Door::parse(alloc, word) {
+        Ok(door) => Ok(door),
+        Err(TextFault::Bad) => Err(UsageFault::Usage),
+        Err(TextFault::NoMemory) => Err(UsageFault::NoMemory),
+    }
+}
+
+#[cfg(test)]
+mod tests;
