@@ -1,4 +1,4 @@
-ghost use Rattle.std.specs.Prelude.{◌≡◌, ℕ, ◌+◌, ◌-◌, ◌<◌, ◌≤◌, List, [], ◌++◌, length, codes, OnOk, MatchResult, is_some, option_copied};
+ghost use Rattle.std.specs.Prelude.{◌≡◌, ◌↔◌, IsTrue, ℕ, ◌+◌, ◌-◌, ◌<◌, ◌≤◌, List, [], ◌++◌, length, codes, OnOk, MatchResult, is_some, option_copied};
 ghost use Rattle.std.specs.Ordering.{is_lt};
 ghost use Rattle.gw_text.specs.model.World.{is_in_namespace, in_namespace};
 ghost use Rattle.std.specs.List.Sorted.{IsSearchInRange};
@@ -162,8 +162,21 @@ fn place<T: Keyed>(objects: &[T], key: &Key) -> Result<usize, usize>
     objects.binary_search_by(|object| compare(object, key))
 }
 
+// Most objects stand in one namespace, where the names decide.
+#[tactic(auto, using(crate::proofs::Fronts::by_name))]
 fn compare<T: Keyed>(object: &T, key: &Key) -> Ordering
     ensures { result ≡ key_order (T.key object.now) (joined key.now) }
 {
-    object.key().compare(key)
+    let own = object.key();
+    if are_in_one_namespace(own, key) {
+        own.name.bytes().cmp(&key.name.bytes())
+    } else {
+        own.compare(key)
+    }
+}
+
+fn are_in_one_namespace(a: &Key, b: &Key) -> bool
+    ensures { IsTrue result ↔ (a.now.namespace ≡ b.now.namespace) }
+{
+    a.namespace.bytes() == b.namespace.bytes()
 }
