@@ -1,6 +1,8 @@
 ghost use Rattle.std.specs.Prelude.{◌≡◌, ◌<◌, ◌∷◌, length, option_copied, position, IfSome};
 ghost use Rattle.gateward.specs.Lines as lines;
 
+use memchr::memchr;
+
 /// The first line without its line feed, and what follows the line feed, if there is one.
 pub fn first_line(text: &[u8]) -> (&[u8], Option<&[u8]>)
     ensures cut { lines.lines_of text.now ≡ result.0.now ∷ lines.lines_left (option_copied result.1) }
@@ -15,7 +17,7 @@ pub fn first_line(text: &[u8]) -> (&[u8], Option<&[u8]>)
 fn line_end(text: &[u8]) -> Option<usize>
     ensures { result ≡ position lines.is_line_end text.now }
 {
-    text.iter().position(|b| *b == b'\n')
+    memchr(b'\n', text)
 }
 
 /// Whether the line has nothing but spaces, tabs and carriage returns.

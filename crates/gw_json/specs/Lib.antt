@@ -1,6 +1,7 @@
 pub mod Fields
 pub mod Lines
 pub mod Paths
+pub mod PathTexts
 pub mod Refusals
 pub mod Rows
 pub mod Words

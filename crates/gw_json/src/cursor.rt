@@ -6,7 +6,8 @@ ghost use Rattle.serde_json.specs.View.{view, items_view, members_view};
 ghost use Rattle.gw_json.specs.Words.{Gives};
 ghost use Rattle.gw_json.specs.Fields.{Place, place_of, object_of, count_of, field_of, need_of, item_count_of, items_of, text_of, number_of, truth_of, members_of, named_place, places_from, named_from, IsInByteOrder};
 
-use crate::refusal::{Path, Refusal};
+use crate::path::Path;
+use crate::refusal::Refusal;
 use serde_json::{Map, Value};
 use std::alloc::{AllocError, Global};
 

@@ -23,7 +23,7 @@ pub trait Item: Drop {
 pub fn each_item<T: Item>(alloc: Global, places: &[Cursor<'_>]) -> Result<Vec<T>, Refusal>
     ensures { Gives (λ v. v.items) result (each T.of (map place_of places.now)) }
 {
-    let mut items = Vec::new(alloc);
+    let mut items = Vec::with_capacity(alloc, places.len())?;
     'places: for place in places {
         items.push(T::read(alloc, place)?)?;
     }

@@ -6,6 +6,7 @@
 mod cursor;
 mod items;
 mod line;
+mod path;
 mod refusal;
 mod rows;
 #[cfg(test)]
@@ -14,4 +15,5 @@ mod tests;
 pub use cursor::Cursor;
 pub use items::{Item, each_item};
 pub use line::{MAX_LINE, push_line, read_value};
-pub use refusal::{Path, Refusal};
+pub use path::Path;
+pub use refusal::Refusal;

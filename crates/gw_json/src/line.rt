@@ -5,7 +5,8 @@ ghost use Rattle.serde_json.specs.Written.{has_float};
 ghost use Rattle.gw_json.specs.Words.{Gives};
 ghost use Rattle.gw_json.specs.Lines.{value_of, line_of};
 
-use crate::refusal::{Path, Refusal};
+use crate::path::Path;
+use crate::refusal::Refusal;
 use serde_json::{Category, Value};
 use std::alloc::{AllocError, Global};
 

@@ -221,6 +221,35 @@ fn paths(rt: HostRuntime) -> Result<(), Fail> {
     Ok(())
 }
 
+// A path that is longer than what stands in the path itself, from wherever it is continued.
+#[test]
+fn long_paths(rt: HostRuntime) -> Result<(), Fail> {
+    let alloc = rt.alloc();
+    for (start, want) in [
+        (
+            "a23456789 b23456789 c23456789 d234",
+            "a23456789 b23456789 c23456789 d234[18].name",
+        ),
+        (
+            "a23456789 b23456789 c23456789 d23456789 e23456",
+            "a23456789 b23456789 c23456789 d23456789 e23456[18].name",
+        ),
+        (
+            "a23456789 b23456789 c23456789 d23456789 e2345678",
+            "a23456789 b23456789 c23456789 d23456789 e2345678[18].name",
+        ),
+        (
+            "a23456789 b23456789 c23456789 d23456789 e23456789",
+            "a23456789 b23456789 c23456789 d23456789 e23456789[18].name",
+        ),
+    ] {
+        let path = Path::of(alloc, start)?;
+        let path = path.item(alloc, 18)?.copied(alloc)?;
+        assert_eq!(rt; path.member(alloc, "name")?.as_str(), want);
+    }
+    Ok(())
+}
+
 // The members of an object of words, each with its path and whether it is null.
 fn members_in(alloc: Global, at: &Cursor<'_>) -> Result<String, Refusal> {
     let mut told = String::new(alloc);

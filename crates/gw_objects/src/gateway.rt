@@ -124,7 +124,7 @@ fn read_listener(alloc: Global, earlier: &[Listener], at: &Cursor<'_>) -> Result
 fn each_listener(alloc: Global, places: &[Cursor<'_>]) -> Result<Vec<Listener>, Refusal>
     ensures { Gives (λ v. v.items) result (gateways.listeners_from [] (map place_of places.now)) }
 {
-    let mut listeners = Vec::new(alloc);
+    let mut listeners = Vec::with_capacity(alloc, places.len())?;
     'places: for place in places {
         let next = read_listener(alloc, listeners.as_slice(), place)?;
         listeners.push(next)?;

@@ -171,7 +171,7 @@ fn each_endpoint(
 ) -> Result<Vec<Endpoint>, Refusal>
     ensures { Gives (λ v. v.items) result (each (slices.endpoint_of of_ipv4) (map place_of places.now)) }
 {
-    let mut endpoints = Vec::new(alloc);
+    let mut endpoints = Vec::with_capacity(alloc, places.len())?;
     'places: for place in places {
         endpoints.push(read_endpoint(alloc, of_ipv4, place)?)?;
     }

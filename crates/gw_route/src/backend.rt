@@ -83,7 +83,7 @@ fn each_backend(
 ) -> Result<Vec<BackendRef>, Refusal>
     ensures { Gives (λ v. v.items) result (each (backends.backend_of own.now) (map place_of places.now)) }
 {
-    let mut backends = Vec::new(alloc);
+    let mut backends = Vec::with_capacity(alloc, places.len())?;
     'places: for place in places {
         backends.push(backend(alloc, own, place)?)?;
     }

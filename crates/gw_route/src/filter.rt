@@ -26,7 +26,7 @@ fn edited(alloc: Global, at: &Cursor<'_>) -> Result<Field, Refusal>
 fn each_edited(alloc: Global, places: &[Cursor<'_>]) -> Result<Vec<Field>, Refusal>
     ensures { Gives (λ v. v.items) result (each filters.edited_of (map place_of places.now)) }
 {
-    let mut fields = Vec::new(alloc);
+    let mut fields = Vec::with_capacity(alloc, places.len())?;
     'places: for place in places {
         fields.push(edited(alloc, place)?)?;
     }
@@ -44,7 +44,7 @@ fn fields(alloc: Global, name: &str, at: &Cursor<'_>) -> Result<Vec<Field>, Refu
 fn each_name(alloc: Global, places: &[Cursor<'_>]) -> Result<Vec<Text>, Refusal>
     ensures { Gives (λ v. v.items) result (each (formed Form.Token) (map place_of places.now)) }
 {
-    let mut names = Vec::new(alloc);
+    let mut names = Vec::with_capacity(alloc, places.len())?;
     'places: for place in places {
         names.push(form(alloc, Form::Token, place)?)?;
     }
@@ -217,7 +217,7 @@ fn filter(alloc: Global, at: &Cursor<'_>) -> Result<Filter, Refusal>
 fn each_filter(alloc: Global, places: &[Cursor<'_>]) -> Result<Vec<Filter>, Refusal>
     ensures { Gives (λ v. map seen_filter v.items) result (each filters.filter_of (map place_of places.now)) }
 {
-    let mut filters = Vec::new(alloc);
+    let mut filters = Vec::with_capacity(alloc, places.len())?;
     'places: for place in places {
         filters.push(filter(alloc, place)?)?;
     }

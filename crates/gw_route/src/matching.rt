@@ -129,7 +129,7 @@ fn default_match(alloc: Global) -> Result<Match, AllocError>
 pub fn default_matches(alloc: Global) -> Result<Vec<Match>, AllocError>
     ensures { IfOk result (λ v. v.items ≡ matches.or_default []) }
 {
-    let mut matches = Vec::new(alloc);
+    let mut matches = Vec::with_capacity(alloc, 1)?;
     matches.push(default_match(alloc)?)?;
     Ok(matches)
 }

@@ -47,7 +47,7 @@ fn parent(alloc: Global, own: &[u8], at: &Cursor<'_>) -> Result<ParentRef, Refus
 fn each_parent(alloc: Global, own: &[u8], places: &[Cursor<'_>]) -> Result<Vec<ParentRef>, Refusal>
     ensures { Gives (λ v. v.items) result (each (parents.parent_of own.now) (map place_of places.now)) }
 {
-    let mut parents = Vec::new(alloc);
+    let mut parents = Vec::with_capacity(alloc, places.len())?;
     'places: for place in places {
         parents.push(parent(alloc, own, place)?)?;
     }

@@ -18,7 +18,7 @@ use std::alloc::{AllocError, Global};
 fn each_hostname(alloc: Global, places: &[Cursor<'_>]) -> Result<Vec<Host>, Refusal>
     ensures { Gives (λ v. v.items) result (each hostname_of (map place_of places.now)) }
 {
-    let mut hostnames = Vec::new(alloc);
+    let mut hostnames = Vec::with_capacity(alloc, places.len())?;
     'places: for place in places {
         hostnames.push(hostname(alloc, place)?)?;
     }
@@ -52,7 +52,7 @@ fn rule(alloc: Global, own: &[u8], at: &Cursor<'_>) -> Result<Rule, Refusal>
 fn each_rule(alloc: Global, own: &[u8], places: &[Cursor<'_>]) -> Result<Vec<Rule>, Refusal>
     ensures { Gives (λ v. v.items) result (each (routes.rule_of own.now) (map place_of places.now)) }
 {
-    let mut rules = Vec::new(alloc);
+    let mut rules = Vec::with_capacity(alloc, places.len())?;
     'places: for place in places {
         rules.push(rule(alloc, own, place)?)?;
     }
@@ -71,7 +71,7 @@ fn listed_rules(alloc: Global, own: &[u8], at: &Cursor<'_>) -> Result<Vec<Rule>,
 fn default_rules(alloc: Global) -> Result<Vec<Rule>, AllocError>
     ensures { IfOk result (λ v. v.items ≡ routes.default_rule ∷ []) }
 {
-    let mut rules = Vec::new(alloc);
+    let mut rules = Vec::with_capacity(alloc, 1)?;
     rules.push(Rule {
         matches: default_matches(alloc)?,
         filters: Vec::new(alloc),

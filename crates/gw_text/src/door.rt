@@ -53,14 +53,14 @@ impl Door {
         })
     }
 
-    // Whether both are of one Gateway, and their addresses differ.
+    /// Whether both are of one Gateway, and their addresses differ.
     pub(crate) fn is_elsewhere(&self, other: &Door) -> bool
         ensures { result ≡ doors.is_elsewhere self.now other.now }
     {
         self.gateway.is(&other.gateway) && !self.at.same_address(&other.at)
     }
 
-    // Whether both are of one Gateway and one listener port, or have one socket.
+    /// Whether both are of one Gateway and one listener port, or have one socket.
     pub(crate) fn is_again(&self, other: &Door) -> bool
         ensures { result ≡ doors.is_again self.now other.now }
     {

@@ -39,6 +39,7 @@ fn octet(text: &[u8]) -> Option<u8>
     }
 }
 
+/// Whether the byte may begin a number: a digit that isn't 0.
 pub(crate) fn is_leading(b: u8) -> bool
     ensures { result ≡ addresses.is_leading b }
 {

@@ -58,12 +58,14 @@ impl Socket {
         Ok(Text::from_vec(text.into_bytes()))
     }
 
+    /// Whether both have the same four numbers.
     pub(crate) fn same_address(&self, other: &Socket) -> bool
         ensures { result ≡ doors.same_address self.now other.now }
     {
         self.a == other.a && self.b == other.b && self.c == other.c && self.d == other.d
     }
 
+    /// Whether both have the same address and port.
     pub(crate) fn same_socket(&self, other: &Socket) -> bool
         ensures { result ≡ doors.same_socket self.now other.now }
     {
@@ -71,7 +73,7 @@ impl Socket {
     }
 }
 
-// The texts before and after the first separator, and no text after where there is none.
+/// The texts before and after the first separator, and no text after where there is none.
 pub(crate) fn around(s: &str, separator: char) -> (&str, &str)
     requires { separator < 128 }
     ensures before { result.0.now ≡ before_first (λ b. b == separator) s.now }
@@ -83,7 +85,7 @@ pub(crate) fn around(s: &str, separator: char) -> (&str, &str)
     }
 }
 
-// The socket that a text names.
+/// The socket that a text names.
 #[tactic(auto, unfolding(crate::specs::model::Addresses::socket_of))]
 pub(crate) fn socket_of(s: &str) -> Option<Socket>
     ensures { result ≡ addresses.socket_of s.now }
@@ -121,7 +123,7 @@ fn is_decimal(text: &[u8]) -> bool
     are_digits(text) && (text.len() == 1 || begins_above_0(text))
 }
 
-// The port that a text writes.
+/// The port that a text writes.
 #[tactic(auto, unfolding(crate::specs::model::Addresses::port_of))]
 pub(crate) fn port_of(s: &str) -> Option<u16>
     ensures { result ≡ addresses.port_of s.now }

@@ -2,14 +2,18 @@ ghost use Rattle.std.specs.Prelude.{◌≡◌, ℕ, ◌↔◌, List, IfOk, IfSom
 ghost use Rattle.std.specs.Str.{IsUtf8};
 ghost use Rattle.gw_text.specs.model.Forms as forms;
 
+use smallvec::SmallVec;
 use std::alloc::{AllocError, Global};
 use std::marker::Model;
 use std::str;
 
+/// The most bytes of a text that stand in the text itself. Most names and words are shorter.
+const SHORT: usize = 24;
+
 /// A list of bytes. It is text in UTF-8 where it comes from JSON or from the words of a command.
 #[derive(Drop)]
 pub struct Text {
-    bytes: Vec<u8>,
+    bytes: SmallVec<u8, SHORT>,
 }
 
 impl Model for Text {
@@ -30,15 +34,17 @@ impl Text {
     pub fn from_bytes(alloc: Global, b: &[u8]) -> Result<Self, AllocError>
         ensures { IfOk result (λ text. text ≡ b.now) }
     {
-        let bytes = b.to_vec(alloc)?;
+        let bytes = SmallVec::from_slice(alloc, b)?;
         Ok(Text { bytes })
     }
 
-    /// The bytes, without a copy.
+    /// The bytes, of which a long text isn't copied.
     pub fn from_vec(bytes: Vec<u8>) -> Self
         ensures { result ≡ bytes.items }
     {
-        Text { bytes }
+        Text {
+            bytes: SmallVec::from_vec(bytes),
+        }
     }
 
     /// The bytes, in UTF-8 or not.
