@@ -16,14 +16,14 @@ use gw_text::{Doors, Key, NoMemory, Text};
 use std::alloc::Global;
 
 fn is_ours(controller: &Text, class: &GatewayClass) -> bool
-    ensures { result ≡ statuses.is_ours controller.now class.now }
+    ensures { result ≡ statuses.is_ours controller.now class.now.object }
 {
     class.controller_name.bytes() == controller.bytes()
 }
 
 #[tactic(auto, unfolding(gw_status::specs::Seen::seen_reason))]
 fn class_accepted(class: &GatewayClass) -> Condition
-    ensures { seen_condition result ≡ statuses.class_accepted_of class.now }
+    ensures { seen_condition result ≡ statuses.class_accepted_of class.now.object }
 {
     if class.parameters_ref {
         Condition::no(CondKind::Accepted, Reason::InvalidParameters)
@@ -33,7 +33,7 @@ fn class_accepted(class: &GatewayClass) -> Condition
 }
 
 fn class_status(alloc: Global, class: &GatewayClass) -> Result<ClassStatus, NoMemory>
-    ensures { IfOk result (λ status. status ≡ statuses.class_status_of class.now) }
+    ensures { IfOk result (λ status. status ≡ statuses.class_status_of class.now.object) }
 {
     Ok(ClassStatus {
         key: class.meta.key.copy(alloc)?,
@@ -66,7 +66,7 @@ fn is_managed(
     world: &World,
     gateway: &Gateway,
 ) -> Result<bool, NoMemory>
-    ensures { IfOk result (λ managed. managed ≡ statuses.is_managed controller.now world.now.world gateway.now) }
+    ensures { IfOk result (λ managed. managed ≡ statuses.is_managed controller.now world.now.world gateway.now.object) }
 {
     let key = Key {
         namespace: Text::of(alloc, "")?,
@@ -115,7 +115,7 @@ fn gateway_status(
     doors: &Doors,
     gateway: &Gateway,
 ) -> Result<GatewayStatus, NoMemory>
-    ensures { IfOk result (λ status. status ≡ statuses.gateway_status_of doors.now gateway.now) }
+    ensures { IfOk result (λ status. status ≡ statuses.gateway_status_of doors.now gateway.now.object) }
 {
     let states = listener_states(alloc, gateway, doors)?;
     let state = gateway_state(gateway, doors, &states);

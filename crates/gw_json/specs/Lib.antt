@@ -1,5 +1,6 @@
 pub mod Fields
 pub mod Lines
+pub mod Members
 pub mod Paths
 pub mod PathTexts
 pub mod Refusals

@@ -4,8 +4,10 @@ ghost use Rattle.std.specs.List.Sorted.{IsStrictlySortedBy};
 ghost use Rattle.std.specs.Map.{keys_of};
 ghost use Rattle.serde_json.specs.View.{view, items_view, members_view};
 ghost use Rattle.gw_json.specs.Words.{Gives};
+ghost use Rattle.gw_json.specs.Members.{place_of_member};
 ghost use Rattle.gw_json.specs.Fields.{Place, place_of, object_of, count_of, field_of, need_of, item_count_of, items_of, text_of, number_of, truth_of, members_of, named_place, places_from, named_from, IsInByteOrder};
 
+use crate::member::Member;
 use crate::path::Path;
 use crate::refusal::Refusal;
 use serde_json::{Map, Value};
@@ -53,26 +55,50 @@ impl<'v> Cursor<'v> {
     }
 
     /// The field of that name; an absent one and one that is null are alike.
-    #[tactic(auto, unfolding(crate::specs::Fields::field_of))]
     pub fn get(&self, alloc: Global, name: &str) -> Result<Option<Cursor<'v>>, Refusal>
         ensures { Gives (option_map place_of) result (field_of name.now (place_of self.now)) }
     {
+        match self.field(alloc, name)? {
+            Some(found) => Ok(Some(found.cursor(alloc)?)),
+            None => Ok(None),
+        }
+    }
+
+    /// The field of that name, whose path isn't written yet.
+    #[tactic(auto, unfolding(crate::specs::Fields::field_of))]
+    #[inline(always)]
+    pub fn field<'c>(
+        &'c self,
+        alloc: Global,
+        name: &'c str,
+    ) -> Result<Option<Member<'c, 'v>>, Refusal>
+        ensures { Gives (option_map place_of_member) result (field_of name.now (place_of self.now)) }
+    {
         self.object(alloc)?;
         match self.value.get(name) {
-            Some(value) if !value.is_null() => Ok(Some(Cursor {
+            Some(value) if !value.is_null() => Ok(Some(Member {
                 value,
-                path: self.path.member(alloc, name)?,
+                object: self,
+                name,
             })),
             _ => Ok(None),
         }
     }
 
     /// The field of that name, which is Missing where `get` finds none.
-    #[tactic(auto, unfolding(crate::specs::Fields::need_of))]
     pub fn need(&self, alloc: Global, name: &str) -> Result<Cursor<'v>, Refusal>
         ensures { Gives place_of result (need_of name.now (place_of self.now)) }
     {
-        match self.get(alloc, name)? {
+        Ok(self.need_field(alloc, name)?.cursor(alloc)?)
+    }
+
+    /// The field of that name, which is Missing where `field` finds none.
+    #[tactic(auto, unfolding(crate::specs::Fields::need_of))]
+    #[inline(always)]
+    pub fn need_field<'c>(&'c self, alloc: Global, name: &'c str) -> Result<Member<'c, 'v>, Refusal>
+        ensures { Gives place_of_member result (need_of name.now (place_of self.now)) }
+    {
+        match self.field(alloc, name)? {
             Some(field) => Ok(field),
             None => Err(Refusal::Missing(self.path.member(alloc, name)?)),
         }

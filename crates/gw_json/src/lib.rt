@@ -6,6 +6,7 @@
 mod cursor;
 mod items;
 mod line;
+mod member;
 mod path;
 mod refusal;
 mod rows;
@@ -15,5 +16,6 @@ mod tests;
 pub use cursor::Cursor;
 pub use items::{Item, each_item};
 pub use line::{MAX_LINE, push_line, read_value};
+pub use member::{Member, Place};
 pub use path::Path;
 pub use refusal::Refusal;

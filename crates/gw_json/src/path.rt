@@ -47,6 +47,7 @@ impl Path {
     }
 
     /// The text that is printed.
+    #[inline(always)]
     pub fn as_str(&self) -> &str
         ensures { result.now ≡ self.now }
     {
@@ -57,6 +58,7 @@ impl Path {
     }
 
     /// Whether it is the path of the object itself.
+    #[inline(always)]
     pub fn is_empty(&self) -> bool
         ensures { IsTrue result ↔ (self.now ≡ []) }
     {
@@ -64,6 +66,7 @@ impl Path {
     }
 
     /// The same path once more.
+    #[inline(always)]
     pub fn copied(&self, alloc: Global) -> Result<Path, AllocError>
         ensures { IfOk result (λ p. p ≡ self.now) }
     {
@@ -75,6 +78,7 @@ impl Path {
     }
 
     /// The path of the member `name` of the object at this path.
+    #[inline(always)]
     pub fn member(&self, alloc: Global, name: &str) -> Result<Path, AllocError>
         ensures { IfOk result (λ p. p ≡ member_path self.now name.now) }
     {
@@ -99,6 +103,7 @@ impl Path {
         Ok(path)
     }
 
+    #[inline(always)]
     fn push_str(&mut self, alloc: Global, more: &str) -> Result<(), AllocError>
         ensures { OnOk result (self.new ≡ self.old ++ more.now) }
     {

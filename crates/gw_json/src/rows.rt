@@ -40,7 +40,7 @@ impl<'v> Cursor<'v> {
     pub fn need_text(&self, alloc: Global, name: &str, most: usize) -> Result<&'v str, Refusal>
         ensures { Gives (λ text. text.now) result (rows.needed (text_of most) name.now (place_of self.now)) }
     {
-        self.need(alloc, name)?.text_in(alloc, most)
+        self.need_field(alloc, name)?.text_in(alloc, most)
     }
 
     /// The text in the field of that name, if the field is there.
@@ -53,7 +53,7 @@ impl<'v> Cursor<'v> {
     ) -> Result<Option<&'v str>, Refusal>
         ensures { Gives option_copied result (rows.given (text_of most) name.now (place_of self.now)) }
     {
-        match self.get(alloc, name)? {
+        match self.field(alloc, name)? {
             Some(found) => Ok(Some(found.text_in(alloc, most)?)),
             None => Ok(None),
         }
@@ -121,6 +121,6 @@ impl<'v> Cursor<'v> {
     pub fn is_given(&self, alloc: Global, name: &str) -> Result<bool, Refusal>
         ensures { Gives (λ there. there) result (rows.is_given name.now (place_of self.now)) }
     {
-        Ok(self.get(alloc, name)?.is_some())
+        Ok(self.field(alloc, name)?.is_some())
     }
 }

@@ -41,7 +41,7 @@ fn is_unusable(door: Option<&Door>, address: &Address) -> bool
 /// Whether the Gateway asks for an address of another type.
 #[tactic(auto, unfolding(gw_text::specs::model::Listeners::has_unsupported_address))]
 pub fn has_unsupported_address(gateway: &Gateway) -> bool
-    ensures { result ≡ rules.has_unsupported_address gateway.now }
+    ensures { result ≡ rules.has_unsupported_address gateway.now.object }
 {
     gateway
         .addresses
@@ -52,7 +52,7 @@ pub fn has_unsupported_address(gateway: &Gateway) -> bool
 /// Whether the Gateway asks for an address that isn't that of its doors.
 #[tactic(auto, unfolding(gw_text::specs::model::Listeners::has_unusable_address))]
 pub fn has_unusable_address(doors: &Doors, gateway: &Gateway) -> bool
-    ensures { result ≡ rules.has_unusable_address doors.now gateway.now }
+    ensures { result ≡ rules.has_unusable_address doors.now gateway.now.object }
 {
     let door = doors.first(&gateway.meta.key);
     gateway
@@ -64,7 +64,7 @@ pub fn has_unusable_address(doors: &Doors, gateway: &Gateway) -> bool
 /// Whether the Gateway's addresses or its want of a door keep all its listeners from being programmed.
 #[tactic(auto, unfolding(gw_text::specs::model::Listeners::has_address_fault))]
 pub fn has_address_fault(doors: &Doors, gateway: &Gateway) -> bool
-    ensures { result ≡ rules.has_address_fault doors.now gateway.now }
+    ensures { result ≡ rules.has_address_fault doors.now gateway.now.object }
 {
     has_unsupported_address(gateway)
         || doors.first(&gateway.meta.key).is_none()

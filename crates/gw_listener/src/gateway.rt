@@ -40,7 +40,7 @@ fn is_some_programmed(states: &[ListenerState]) -> bool
 
 #[tactic(auto, using(crate::proofs::Maps::list_any_map, crate::proofs::Maps::list_all_map), unfolding(gw_text::specs::model::Listeners::gateway_accepted_of, gw_status::specs::Seen::seen_reason))]
 fn accepted(gateway: &Gateway, states: &[ListenerState]) -> Condition
-    ensures { seen_condition result ≡ rules.gateway_accepted_of gateway.now (map seen_state states.now) }
+    ensures { seen_condition result ≡ rules.gateway_accepted_of gateway.now.object (map seen_state states.now) }
 {
     if has_unsupported_address(gateway) {
         Condition::no(CondKind::Accepted, Reason::UnsupportedAddress)
@@ -60,7 +60,7 @@ fn programmed(
     accepted: Condition,
     states: &[ListenerState],
 ) -> Condition
-    ensures { seen_condition result ≡ rules.gateway_programmed_of doors.now gateway.now (seen_condition accepted) (map seen_state states.now) }
+    ensures { seen_condition result ≡ rules.gateway_programmed_of doors.now gateway.now.object (seen_condition accepted) (map seen_state states.now) }
 {
     if doors.first(&gateway.meta.key).is_none() {
         Condition::no(CondKind::Programmed, Reason::AddressNotAssigned)
@@ -76,8 +76,8 @@ fn programmed(
 /// The state of a Gateway, of whose listeners these are the states.
 #[tactic(auto, unfolding(gw_text::specs::model::Listeners::gateway_state))]
 pub fn gateway_state(gateway: &Gateway, doors: &Doors, states: &ListenerStates) -> GatewayState
-    requires { map seen_state states.now ≡ rules.listener_states doors.now gateway.now }
-    ensures { seen_gateway result ≡ rules.gateway_state doors.now gateway.now (rules.listener_states doors.now gateway.now) }
+    requires { map seen_state states.now ≡ rules.listener_states doors.now gateway.now.object }
+    ensures { seen_gateway result ≡ rules.gateway_state doors.now gateway.now.object (rules.listener_states doors.now gateway.now.object) }
 {
     let states = states.as_slice();
     let accepted = accepted(gateway, states);

@@ -177,7 +177,7 @@ fn programmed(fault: bool, accepted: Condition, listener: &Listener) -> Conditio
 
 #[tactic(auto, unfolding(gw_text::specs::model::Listeners::listener_state))]
 fn listener_state(doors: &Doors, gateway: &Gateway, listener: &Listener) -> ListenerState
-    ensures { seen_state result ≡ rules.listener_state doors.now gateway.now listener.now }
+    ensures { seen_state result ≡ rules.listener_state doors.now gateway.now.object listener.now }
 {
     let conflicted = conflicted(gateway.listeners.as_slice(), listener);
     let accepted = accepted(doors, &gateway.meta.key, conflicted, listener);
@@ -196,7 +196,7 @@ pub fn listener_states(
     gateway: &Gateway,
     doors: &Doors,
 ) -> Result<ListenerStates, NoMemory>
-    ensures { IfOk result (λ states. map seen_state states ≡ rules.listener_states doors.now gateway.now) }
+    ensures { IfOk result (λ states. map seen_state states ≡ rules.listener_states doors.now gateway.now.object) }
 {
     let mut states = ListenerStates::new(alloc);
     'listeners: for listener in gateway.listeners.iter() {

@@ -11,7 +11,7 @@ use gw_objects::{
     Address, AllowedRoutes, FromNamespaces, Gateway, GatewayFields, Listener, RouteKind,
 };
 use gw_status::Condition;
-use gw_text::{Boxed, Door, Doors, Host, Key, Meta, NoMemory, Socket, Text};
+use gw_text::{Held, Door, Doors, Host, Key, Meta, NoMemory, Socket, Text};
 use std::alloc::Global;
 use std::str;
 use std::test::Fail;
@@ -503,7 +503,7 @@ fn gateway(alloc: Global, case: &[u8]) -> Result<Gateway, NoMemory> {
     let gateway_class_name = Text::of(alloc, "c")?;
     let listeners = listeners(alloc, case)?;
     let addresses = addresses(alloc, case)?;
-    Ok(Boxed::new(
+    Ok(Held::new(
         alloc,
         GatewayFields {
             meta,

@@ -4,7 +4,7 @@ ghost use Rattle.gw_objects.specs.Classes as classes;
 
 use crate::fields::need_word;
 use gw_json::{Cursor, Refusal};
-use gw_text::{Boxed, Meta, Text};
+use gw_text::{Held, Meta, Text};
 use std::alloc::Global;
 use std::marker::Model;
 
@@ -26,7 +26,7 @@ impl Model for GatewayClassFields {
 }
 
 /// A GatewayClass, one pointer wide.
-pub type GatewayClass = Boxed<GatewayClassFields>;
+pub type GatewayClass = Held<GatewayClassFields>;
 
 #[tactic(auto, unfolding(crate::specs::Classes::controller_name_of))]
 fn controller_name(alloc: Global, spec: &Cursor<'_>) -> Result<Text, Refusal>
@@ -45,12 +45,12 @@ fn parameters_ref(alloc: Global, spec: &Cursor<'_>) -> Result<bool, Refusal>
 /// The GatewayClass of this metadata. `at` is the whole object.
 #[tactic(auto, unfolding(crate::specs::Classes::class_of))]
 pub fn read_class(alloc: Global, meta: Meta, at: &Cursor<'_>) -> Result<GatewayClass, Refusal>
-    ensures { Gives (λ class. class) result (classes.class_of meta (place_of at.now)) }
+    ensures { Gives (λ class. class.object) result (classes.class_of meta (place_of at.now)) }
 {
     let spec = at.spec(alloc)?;
     let controller_name = controller_name(alloc, &spec)?;
     let parameters_ref = parameters_ref(alloc, &spec)?;
-    Ok(Boxed::new(
+    Ok(Held::new(
         alloc,
         GatewayClassFields {
             meta,

@@ -5,21 +5,21 @@ ghost use Rattle.gw_json.specs.Fields.{place_of};
 ghost use Rattle.gw_json.specs.Rows.{needed, given, defaulted};
 ghost use Rattle.gw_objects.specs.Forms.{word_of, name_of, namespace_name_of, hostname_of};
 
-use gw_json::{Cursor, Refusal};
+use gw_json::{Cursor, Place, Refusal};
 use gw_text::{Host, Text, TextFault, is_name, is_namespace};
 use std::alloc::Global;
 
 /// Any text of at most 512 bytes.
-pub fn word(alloc: Global, at: &Cursor<'_>) -> Result<Text, Refusal>
-    ensures { Gives (λ word. word) result (word_of (place_of at.now)) }
+pub fn word<P: Place>(alloc: Global, at: &P) -> Result<Text, Refusal>
+    ensures { Gives (λ word. word) result (word_of (P.place at.now)) }
 {
     Ok(Text::of(alloc, at.text_in(alloc, 512)?)?)
 }
 
 /// The name of an object.
 #[tactic(auto, unfolding(crate::specs::Forms::name_of))]
-pub fn name(alloc: Global, at: &Cursor<'_>) -> Result<Text, Refusal>
-    ensures { Gives (λ name. name) result (name_of (place_of at.now)) }
+pub fn name<P: Place>(alloc: Global, at: &P) -> Result<Text, Refusal>
+    ensures { Gives (λ name. name) result (name_of (P.place at.now)) }
 {
     let text = at.text_in(alloc, 253)?;
     if !is_name(text.as_bytes()) {
@@ -30,8 +30,8 @@ pub fn name(alloc: Global, at: &Cursor<'_>) -> Result<Text, Refusal>
 
 /// The name of a namespace.
 #[tactic(auto, unfolding(crate::specs::Forms::namespace_name_of))]
-pub fn namespace_name(alloc: Global, at: &Cursor<'_>) -> Result<Text, Refusal>
-    ensures { Gives (λ name. name) result (namespace_name_of (place_of at.now)) }
+pub fn namespace_name<P: Place>(alloc: Global, at: &P) -> Result<Text, Refusal>
+    ensures { Gives (λ name. name) result (namespace_name_of (P.place at.now)) }
 {
     let text = at.text_in(alloc, 63)?;
     if !is_namespace(text.as_bytes()) {
@@ -42,8 +42,8 @@ pub fn namespace_name(alloc: Global, at: &Cursor<'_>) -> Result<Text, Refusal>
 
 /// A hostname, `*.` in front or not.
 #[tactic(auto, unfolding(crate::specs::Forms::hostname_of))]
-pub fn hostname(alloc: Global, at: &Cursor<'_>) -> Result<Host, Refusal>
-    ensures { Gives (λ host. host) result (hostname_of (place_of at.now)) }
+pub fn hostname<P: Place>(alloc: Global, at: &P) -> Result<Host, Refusal>
+    ensures { Gives (λ host. host) result (hostname_of (P.place at.now)) }
 {
     let text = at.text_in(alloc, 253)?;
     match Host::parse(alloc, text) {
@@ -58,7 +58,7 @@ pub fn hostname(alloc: Global, at: &Cursor<'_>) -> Result<Host, Refusal>
 pub fn need_word(alloc: Global, field: &str, at: &Cursor<'_>) -> Result<Text, Refusal>
     ensures { Gives (λ word. word) result (needed word_of field.now (place_of at.now)) }
 {
-    word(alloc, &at.need(alloc, field)?)
+    word(alloc, &at.need_field(alloc, field)?)
 }
 
 /// The name in the field, which must be there.
@@ -66,7 +66,7 @@ pub fn need_word(alloc: Global, field: &str, at: &Cursor<'_>) -> Result<Text, Re
 pub fn need_name(alloc: Global, field: &str, at: &Cursor<'_>) -> Result<Text, Refusal>
     ensures { Gives (λ name. name) result (needed name_of field.now (place_of at.now)) }
 {
-    name(alloc, &at.need(alloc, field)?)
+    name(alloc, &at.need_field(alloc, field)?)
 }
 
 /// The name of a namespace in the field, which must be there.
@@ -74,7 +74,7 @@ pub fn need_name(alloc: Global, field: &str, at: &Cursor<'_>) -> Result<Text, Re
 pub fn need_namespace_name(alloc: Global, field: &str, at: &Cursor<'_>) -> Result<Text, Refusal>
     ensures { Gives (λ name. name) result (needed namespace_name_of field.now (place_of at.now)) }
 {
-    namespace_name(alloc, &at.need(alloc, field)?)
+    namespace_name(alloc, &at.need_field(alloc, field)?)
 }
 
 /// The word of the field, if it is there.
@@ -82,7 +82,7 @@ pub fn need_namespace_name(alloc: Global, field: &str, at: &Cursor<'_>) -> Resul
 pub fn some_word(alloc: Global, field: &str, at: &Cursor<'_>) -> Result<Option<Text>, Refusal>
     ensures { Gives (λ word. word) result (given word_of field.now (place_of at.now)) }
 {
-    match at.get(alloc, field)? {
+    match at.field(alloc, field)? {
         Some(found) => Ok(Some(word(alloc, &found)?)),
         None => Ok(None),
     }
@@ -93,7 +93,7 @@ pub fn some_word(alloc: Global, field: &str, at: &Cursor<'_>) -> Result<Option<T
 pub fn some_name(alloc: Global, field: &str, at: &Cursor<'_>) -> Result<Option<Text>, Refusal>
     ensures { Gives (λ name. name) result (given name_of field.now (place_of at.now)) }
 {
-    match at.get(alloc, field)? {
+    match at.field(alloc, field)? {
         Some(found) => Ok(Some(name(alloc, &found)?)),
         None => Ok(None),
     }
@@ -104,7 +104,7 @@ pub fn some_name(alloc: Global, field: &str, at: &Cursor<'_>) -> Result<Option<T
 pub fn some_hostname(alloc: Global, at: &Cursor<'_>) -> Result<Option<Host>, Refusal>
     ensures { Gives (λ host. host) result (given hostname_of (codes "hostname") (place_of at.now)) }
 {
-    match at.get(alloc, "hostname")? {
+    match at.field(alloc, "hostname")? {
         Some(found) => Ok(Some(hostname(alloc, &found)?)),
         None => Ok(None),
     }
@@ -115,7 +115,7 @@ pub fn some_hostname(alloc: Global, at: &Cursor<'_>) -> Result<Option<Host>, Ref
 pub fn word_or(alloc: Global, default: &str, field: &str, at: &Cursor<'_>) -> Result<Text, Refusal>
     ensures { Gives (λ word. word) result (defaulted default.now word_of field.now (place_of at.now)) }
 {
-    match at.get(alloc, field)? {
+    match at.field(alloc, field)? {
         Some(found) => word(alloc, &found),
         None => Ok(Text::of(alloc, default)?),
     }

@@ -6,7 +6,7 @@ ghost use Rattle.gw_objects.specs.Gateways as gateways;
 use crate::fields::{name, need_name, need_word, some_hostname, some_word, word_or};
 use crate::routes::{AllowedRoutes, read_routes};
 use gw_json::{Cursor, Item, Refusal, each_item};
-use gw_text::{Boxed, Host, Meta, Text};
+use gw_text::{Held, Host, Meta, Text};
 use std::alloc::Global;
 use std::marker::Model;
 
@@ -76,7 +76,7 @@ impl Model for GatewayFields {
 }
 
 /// A Gateway, one pointer wide.
-pub type Gateway = Boxed<GatewayFields>;
+pub type Gateway = Held<GatewayFields>;
 
 #[tactic(auto, unfolding(crate::specs::Gateways::is_among))]
 fn is_among(name: &[u8], listeners: &[Listener]) -> bool
@@ -169,13 +169,13 @@ fn class_name(alloc: Global, spec: &Cursor<'_>) -> Result<Text, Refusal>
 /// The Gateway of this metadata. `at` is the whole object.
 #[tactic(auto, unfolding(crate::specs::Gateways::gateway_of))]
 pub fn read_gateway(alloc: Global, meta: Meta, at: &Cursor<'_>) -> Result<Gateway, Refusal>
-    ensures { Gives (λ gateway. gateway) result (gateways.gateway_of meta (place_of at.now)) }
+    ensures { Gives (λ gateway. gateway.object) result (gateways.gateway_of meta (place_of at.now)) }
 {
     let spec = at.spec(alloc)?;
     let gateway_class_name = class_name(alloc, &spec)?;
     let listeners = listeners(alloc, &spec)?;
     let addresses = addresses(alloc, &spec)?;
-    Ok(Boxed::new(
+    Ok(Held::new(
         alloc,
         GatewayFields {
             meta,

@@ -4,7 +4,7 @@ ghost use Rattle.gw_objects.specs.Grants as grants;
 
 use crate::fields::{need_namespace_name, need_word, some_name};
 use gw_json::{Cursor, Item, Refusal, each_item};
-use gw_text::{Boxed, Meta, Text};
+use gw_text::{Held, Meta, Text};
 use std::alloc::Global;
 use std::marker::Model;
 
@@ -85,7 +85,7 @@ impl Model for ReferenceGrantFields {
 }
 
 /// A ReferenceGrant, one pointer wide.
-pub type ReferenceGrant = Boxed<ReferenceGrantFields>;
+pub type ReferenceGrant = Held<ReferenceGrantFields>;
 
 #[tactic(auto, unfolding(crate::specs::Grants::from_of))]
 fn from(alloc: Global, spec: &Cursor<'_>) -> Result<Vec<GrantFrom>, Refusal>
@@ -106,10 +106,10 @@ fn to(alloc: Global, spec: &Cursor<'_>) -> Result<Vec<GrantTo>, Refusal>
 /// The ReferenceGrant of this metadata. `at` is the whole object.
 #[tactic(auto, unfolding(crate::specs::Grants::grant_of))]
 pub fn read_grant(alloc: Global, meta: Meta, at: &Cursor<'_>) -> Result<ReferenceGrant, Refusal>
-    ensures { Gives (λ grant. grant) result (grants.grant_of meta (place_of at.now)) }
+    ensures { Gives (λ grant. grant.object) result (grants.grant_of meta (place_of at.now)) }
 {
     let spec = at.spec(alloc)?;
     let from = from(alloc, &spec)?;
     let to = to(alloc, &spec)?;
-    Ok(Boxed::new(alloc, ReferenceGrantFields { meta, from, to })?)
+    Ok(Held::new(alloc, ReferenceGrantFields { meta, from, to })?)
 }

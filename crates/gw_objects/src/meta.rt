@@ -5,7 +5,7 @@ ghost use Rattle.gw_json.specs.Rows.{given};
 ghost use Rattle.gw_objects.specs.Metadata as metadata;
 
 use crate::fields::{namespace_name, need_name};
-use gw_json::{Cursor, Refusal};
+use gw_json::{Cursor, Place, Refusal};
 use gw_text::{Key, Meta, Second, Text};
 use std::alloc::Global;
 
@@ -20,8 +20,8 @@ fn is_namespaced(kind: &str) -> bool
 }
 
 #[tactic(auto, unfolding(crate::specs::Metadata::moment_of))]
-fn moment(alloc: Global, at: &Cursor<'_>) -> Result<Second, Refusal>
-    ensures { Gives (λ moment. moment) result (metadata.moment_of (place_of at.now)) }
+fn moment<P: Place>(alloc: Global, at: &P) -> Result<Second, Refusal>
+    ensures { Gives (λ moment. moment) result (metadata.moment_of (P.place at.now)) }
 {
     let text = at.text_in(alloc, usize::MAX)?;
     match Second::parse(text) {
@@ -37,7 +37,7 @@ fn namespace(alloc: Global, kind: &str, at: &Cursor<'_>) -> Result<Text, Refusal
     if !is_namespaced(kind) {
         return Ok(Text::of(alloc, "")?);
     }
-    match at.get(alloc, "namespace")? {
+    match at.field(alloc, "namespace")? {
         Some(found) => namespace_name(alloc, &found),
         None => Ok(Text::of(alloc, "default")?),
     }
@@ -47,7 +47,7 @@ fn namespace(alloc: Global, kind: &str, at: &Cursor<'_>) -> Result<Text, Refusal
 fn some_moment(alloc: Global, field: &str, at: &Cursor<'_>) -> Result<Option<Second>, Refusal>
     ensures { Gives (λ moment. moment) result (given metadata.moment_of field.now (place_of at.now)) }
 {
-    match at.get(alloc, field)? {
+    match at.field(alloc, field)? {
         Some(found) => Ok(Some(moment(alloc, &found)?)),
         None => Ok(None),
     }

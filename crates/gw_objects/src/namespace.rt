@@ -6,7 +6,7 @@ ghost use Rattle.gw_objects.specs.Namespaces as namespaces;
 use crate::labels::read_labels;
 use gw_json::{Cursor, Refusal};
 use gw_labels::Labels;
-use gw_text::{Boxed, Meta};
+use gw_text::{Held, Meta};
 use std::alloc::{AllocError, Global};
 use std::marker::Model;
 
@@ -27,7 +27,7 @@ impl Model for NamespaceFields {
 }
 
 /// A Namespace, one pointer wide.
-pub type Namespace = Boxed<NamespaceFields>;
+pub type Namespace = Held<NamespaceFields>;
 
 fn put_own_name(alloc: Global, meta: &Meta, labels: &mut Labels) -> Result<(), AllocError>
     ensures { OnOk result (labels.new ≡ namespaces.with_own_name meta.now labels.old) }
@@ -39,9 +39,9 @@ fn put_own_name(alloc: Global, meta: &Meta, labels: &mut Labels) -> Result<(), A
 /// The Namespace of this metadata. `at` is the whole object.
 #[tactic(auto, unfolding(crate::specs::Namespaces::namespace_of))]
 pub fn read_namespace(alloc: Global, meta: Meta, at: &Cursor<'_>) -> Result<Namespace, Refusal>
-    ensures { Gives (λ namespace. namespace) result (namespaces.namespace_of meta (place_of at.now)) }
+    ensures { Gives (λ namespace. namespace.object) result (namespaces.namespace_of meta (place_of at.now)) }
 {
     let mut labels = read_labels(alloc, at)?;
     put_own_name(alloc, &meta, &mut labels)?;
-    Ok(Boxed::new(alloc, NamespaceFields { meta, labels })?)
+    Ok(Held::new(alloc, NamespaceFields { meta, labels })?)
 }

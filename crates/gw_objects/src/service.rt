@@ -4,7 +4,7 @@ ghost use Rattle.gw_objects.specs.Services as services;
 
 use crate::fields::{some_word, word_or};
 use gw_json::{Cursor, Item, Refusal, each_item};
-use gw_text::{Boxed, Meta, Text};
+use gw_text::{Held, Meta, Text};
 use std::alloc::Global;
 use std::marker::Model;
 
@@ -69,7 +69,7 @@ impl Model for ServiceFields {
 }
 
 /// A Service, one pointer wide.
-pub type Service = Boxed<ServiceFields>;
+pub type Service = Held<ServiceFields>;
 
 #[tactic(auto, unfolding(crate::specs::Services::external_name_of))]
 fn external_name(alloc: Global, spec: &Cursor<'_>) -> Result<bool, Refusal>
@@ -92,12 +92,12 @@ fn service_ports(alloc: Global, spec: &Cursor<'_>) -> Result<Vec<ServicePort>, R
 /// The Service of this metadata. `at` is the whole object.
 #[tactic(auto, unfolding(crate::specs::Services::service_of))]
 pub fn read_service(alloc: Global, meta: Meta, at: &Cursor<'_>) -> Result<Service, Refusal>
-    ensures { Gives (λ service. service) result (services.service_of meta (place_of at.now)) }
+    ensures { Gives (λ service. service.object) result (services.service_of meta (place_of at.now)) }
 {
     let spec = at.spec(alloc)?;
     let external_name = external_name(alloc, &spec)?;
     let ports = service_ports(alloc, &spec)?;
-    Ok(Boxed::new(
+    Ok(Held::new(
         alloc,
         ServiceFields {
             meta,

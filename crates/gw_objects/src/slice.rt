@@ -7,7 +7,7 @@ use crate::fields::{need_word, word_or};
 use crate::labels::read_labels;
 use gw_json::{Cursor, Item, Refusal, each_item};
 use gw_labels::Labels;
-use gw_text::{Boxed, Ipv4, Meta, Text, parse_ipv4};
+use gw_text::{Held, Ipv4, Meta, Text, parse_ipv4};
 use std::alloc::Global;
 use std::marker::Model;
 
@@ -81,7 +81,7 @@ impl Model for EndpointSliceFields {
 }
 
 /// An EndpointSlice, one pointer wide.
-pub type EndpointSlice = Boxed<EndpointSliceFields>;
+pub type EndpointSlice = Held<EndpointSliceFields>;
 
 #[tactic(auto, unfolding(crate::specs::Slices::endpoint_ports_of))]
 fn endpoint_ports(alloc: Global, at: &Cursor<'_>) -> Result<Vec<EndpointPort>, Refusal>
@@ -196,14 +196,14 @@ fn address_type(alloc: Global, at: &Cursor<'_>) -> Result<Text, Refusal>
 /// The EndpointSlice of this metadata. `at` is the whole object.
 #[tactic(auto, unfolding(crate::specs::Slices::slice_of))]
 pub fn read_slice(alloc: Global, meta: Meta, at: &Cursor<'_>) -> Result<EndpointSlice, Refusal>
-    ensures { Gives (λ slice. slice) result (slices.slice_of meta (place_of at.now)) }
+    ensures { Gives (λ slice. slice.object) result (slices.slice_of meta (place_of at.now)) }
 {
     let labels = read_labels(alloc, at)?;
     let address_type = address_type(alloc, at)?;
     let ports = endpoint_ports(alloc, at)?;
     let of_ipv4 = address_type.bytes() == b"IPv4".as_slice();
     let endpoints = endpoints(alloc, of_ipv4, at)?;
-    Ok(Boxed::new(
+    Ok(Held::new(
         alloc,
         EndpointSliceFields {
             meta,

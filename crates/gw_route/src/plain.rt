@@ -1,5 +1,5 @@
 //! HTTPRoutes and their parts, with the defaults of absent fields filled in. A field `type` is called `sort`.
-use gw_text::{Boxed, Field, Host, Meta, Text};
+use gw_text::{Field, Held, Host, Meta, Text};
 use std::marker::Model;
 
 /// What a Route wants to be attached to: as a rule a Gateway, or one listener of it.
@@ -227,4 +227,4 @@ impl Model for HttpRouteFields {
 }
 
 /// An HTTPRoute, one pointer wide.
-pub type HttpRoute = Boxed<HttpRouteFields>;
+pub type HttpRoute = Held<HttpRouteFields>;

@@ -12,7 +12,7 @@ use crate::parent::parents;
 use crate::plain::{HttpRoute, HttpRouteFields, Rule};
 use crate::words::hostname;
 use gw_json::{Cursor, Refusal};
-use gw_text::{Boxed, Host, Meta};
+use gw_text::{Held, Host, Meta};
 use std::alloc::{AllocError, Global};
 
 fn each_hostname(alloc: Global, places: &[Cursor<'_>]) -> Result<Vec<Host>, Refusal>
@@ -94,13 +94,13 @@ fn rules(alloc: Global, own: &[u8], spec: &Cursor<'_>) -> Result<Vec<Rule>, Refu
 /// The HTTPRoute that the object `at` is, whose metadata was read before.
 #[tactic(auto, unfolding(crate::specs::Routes::route_of))]
 pub fn read_route(alloc: Global, meta: Meta, at: &Cursor<'_>) -> Result<HttpRoute, Refusal>
-    ensures { Gives (λ r. r) result (routes.route_of meta (place_of at.now)) }
+    ensures { Gives (λ r. r.object) result (routes.route_of meta (place_of at.now)) }
 {
     let spec = at.spec(alloc)?;
     let parent_refs = parents(alloc, meta.key.namespace.bytes(), &spec)?;
     let hostnames = hostnames(alloc, &spec)?;
     let rules = rules(alloc, meta.key.namespace.bytes(), &spec)?;
-    Ok(Boxed::new(
+    Ok(Held::new(
         alloc,
         HttpRouteFields {
             meta,

@@ -5,27 +5,20 @@ ghost use Rattle.gw_json.specs.Rows as rows;
 ghost use Rattle.gw_route.specs.Words as words;
 
 use crate::form::Form;
-use gw_json::{Cursor, Refusal};
+use gw_json::{Cursor, Place, Refusal};
 use gw_text::{Host, Text, TextFault};
 use std::alloc::Global;
 
-/// The text of that form, where it stands.
+/// The text of that form.
 #[tactic(auto, unfolding(crate::specs::Words::formed))]
-fn formed<'v>(alloc: Global, form: Form, at: &Cursor<'v>) -> Result<&'v str, Refusal>
-    ensures { Gives (λ text. text.now) result (words.formed form (place_of at.now)) }
+pub fn form<P: Place>(alloc: Global, form: Form, at: &P) -> Result<Text, Refusal>
+    ensures { Gives (λ text. text) result (words.formed form (P.place at.now)) }
 {
     let text = at.text_in(alloc, form.most())?;
     if !form.fits(text) {
         return Err(at.bad_value(alloc)?);
     }
-    Ok(text)
-}
-
-/// The text of that form.
-pub fn form(alloc: Global, form: Form, at: &Cursor<'_>) -> Result<Text, Refusal>
-    ensures { Gives (λ text. text) result (words.formed form (place_of at.now)) }
-{
-    Ok(Text::of(alloc, formed(alloc, form, at)?)?)
+    Ok(Text::of(alloc, text)?)
 }
 
 /// A hostname, `*.` in front or not.
@@ -42,11 +35,12 @@ pub fn hostname(alloc: Global, at: &Cursor<'_>) -> Result<Host, Refusal>
 }
 
 /// The word of the field, where it stands.
-#[tactic(auto, unfolding(gw_json::specs::Rows::needed))]
+#[tactic(auto, unfolding(gw_json::specs::Rows::needed, crate::specs::Words::formed))]
 pub fn need_word<'v>(alloc: Global, field: &str, at: &Cursor<'v>) -> Result<&'v str, Refusal>
     ensures { Gives (λ text. text.now) result (rows.needed (words.formed Form.Word) field.now (place_of at.now)) }
 {
-    formed(alloc, Form::Word, &at.need(alloc, field)?)
+    at.need_field(alloc, field)?
+        .text_in(alloc, Form::Word.most())
 }
 
 /// The text of the field, which must be there.
@@ -54,7 +48,7 @@ pub fn need_word<'v>(alloc: Global, field: &str, at: &Cursor<'v>) -> Result<&'v 
 pub fn need_form(alloc: Global, kind: Form, field: &str, at: &Cursor<'_>) -> Result<Text, Refusal>
     ensures { Gives (λ text. text) result (rows.needed (words.formed kind) field.now (place_of at.now)) }
 {
-    form(alloc, kind, &at.need(alloc, field)?)
+    form(alloc, kind, &at.need_field(alloc, field)?)
 }
 
 /// The text of the field, if it is there.
@@ -67,7 +61,7 @@ pub fn some_form(
 ) -> Result<Option<Text>, Refusal>
     ensures { Gives (λ text. text) result (rows.given (words.formed kind) field.now (place_of at.now)) }
 {
-    match at.get(alloc, field)? {
+    match at.field(alloc, field)? {
         Some(found) => Ok(Some(form(alloc, kind, &found)?)),
         None => Ok(None),
     }
@@ -84,7 +78,7 @@ pub fn form_or(
 ) -> Result<Text, Refusal>
     ensures { Gives (λ text. text) result (rows.defaulted default.now (words.formed kind) field.now (place_of at.now)) }
 {
-    match at.get(alloc, field)? {
+    match at.field(alloc, field)? {
         Some(found) => form(alloc, kind, &found),
         None => Ok(Text::from_bytes(alloc, default)?),
     }

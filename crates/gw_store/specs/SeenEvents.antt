@@ -1,5 +1,4 @@
 -- How the events of the code stand for the plain ones.
-use Rattle.std.specs.Prelude.{ℤ}
 use Rattle.gw_text.specs.model.Objects.{Object as PlainObject, a_class, a_gateway, a_route, a_grant, a_namespace, a_service, a_slice, Event as PlainEvent, puts, removes}
 use Rattle.gw_json.specs.Fields.{place_of}
 use Rattle.gw_store.specs.Events.{Written as Plain, Read as PlainRead, a_change, is_skipped}
@@ -13,13 +12,13 @@ use Rattle.gw_store.specs.declared.event.Read.TheVariants.{Change, Skipped}
 use Rattle.gw_store.specs.declared.read.Written.{Written}
 
 abbrev pub seen_object : Object → PlainObject
-seen_object (GatewayClass x) = a_class x
-seen_object (Gateway x) = a_gateway x
-seen_object (HttpRoute x) = a_route x
-seen_object (ReferenceGrant x) = a_grant x
-seen_object (Namespace x) = a_namespace x
-seen_object (Service x) = a_service x
-seen_object (EndpointSlice x) = a_slice x
+seen_object (GatewayClass x) = a_class x.object
+seen_object (Gateway x) = a_gateway x.object
+seen_object (HttpRoute x) = a_route x.object
+seen_object (ReferenceGrant x) = a_grant x.object
+seen_object (Namespace x) = a_namespace x.object
+seen_object (Service x) = a_service x.object
+seen_object (EndpointSlice x) = a_slice x.object
 
 abbrev pub seen_event : Event → PlainEvent
 seen_event (Put object) = puts (seen_object object)

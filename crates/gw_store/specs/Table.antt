@@ -1,5 +1,5 @@
 -- A table of objects as contracts see it, and where a key stands in it.
-use Rattle.std.specs.Prelude.{◌≡◌, ℕ, suc, zero, ℤ, List, [], ◌∷◌}
+use Rattle.std.specs.Prelude.{◌≡◌, ℕ, suc, zero, List, [], ◌∷◌}
 use Rattle.std.specs.List.{AllByRecursion}
 use Rattle.std.specs.declared.cmp.Ordering.TheVariants.{Less, Equal, Greater}
 use Rattle.gw_text.specs.model.Held.{Held, key_order}
@@ -9,24 +9,18 @@ pub record Rows (T : Type 0) : Type 0 where
   pub held : List (Held T)
   pub spare : ℕ
 
--- Objects beside their first moments.
-abbrev pub held : {T : Type 0} → List T → List ℤ → List (Held T)
-held [] firsts = []
-held (x ∷ objects) [] = []
-held (x ∷ objects) (at ∷ firsts) = record { object = x; first = at } ∷ held objects firsts
-
 -- All keys are above this one.
-abbrev pub AllAbove : {T : Type 0} → (T → List ℕ) → List ℕ → List T → Type 0
-AllAbove key name objects = AllByRecursion (λ x. key_order (key x) name ≡ Greater) objects
+abbrev pub AllAbove : {T : Type 0} → (T → List ℕ) → List ℕ → List (Held T) → Type 0
+AllAbove key name held = AllByRecursion (λ h. key_order (key h.object) name ≡ Greater) held
 
 -- The object of this key stands at i: the keys before it are lower, and those after it higher.
-abbrev pub StandsAt : {T : Type 0} → (T → List ℕ) → List ℕ → List T → ℕ → Type 0
+abbrev pub StandsAt : {T : Type 0} → (T → List ℕ) → List ℕ → List (Held T) → ℕ → Type 0
 StandsAt key name [] i = ⊥
-StandsAt key name (x ∷ objects) zero = (key_order (key x) name ≡ Equal) × AllAbove key name objects
-StandsAt key name (x ∷ objects) (suc i) = (key_order (key x) name ≡ Less) × StandsAt key name objects i
+StandsAt key name (h ∷ held) zero = (key_order (key h.object) name ≡ Equal) × AllAbove key name held
+StandsAt key name (h ∷ held) (suc i) = (key_order (key h.object) name ≡ Less) × StandsAt key name held i
 
 -- No object has this key, and i is the place between the lower keys and the higher ones.
-abbrev pub IsMissingAt : {T : Type 0} → (T → List ℕ) → List ℕ → List T → ℕ → Type 0
-IsMissingAt key name objects zero = AllAbove key name objects
+abbrev pub IsMissingAt : {T : Type 0} → (T → List ℕ) → List ℕ → List (Held T) → ℕ → Type 0
+IsMissingAt key name held zero = AllAbove key name held
 IsMissingAt key name [] (suc i) = ⊥
-IsMissingAt key name (x ∷ objects) (suc i) = (key_order (key x) name ≡ Less) × IsMissingAt key name objects i
+IsMissingAt key name (h ∷ held) (suc i) = (key_order (key h.object) name ≡ Less) × IsMissingAt key name held i

@@ -1,10 +1,13 @@
 //! By which text the objects of each kind are ordered.
 use crate::table::Keyed;
-use gw_objects::{EndpointSlice, Gateway, GatewayClass, Namespace, ReferenceGrant, Service};
-use gw_route::HttpRoute;
+use gw_objects::{
+    EndpointSliceFields, GatewayClassFields, GatewayFields, NamespaceFields, ReferenceGrantFields,
+    ServiceFields,
+};
+use gw_route::HttpRouteFields;
 use gw_text::Key;
 
-impl Keyed for GatewayClass {
+impl Keyed for GatewayClassFields {
     ghost use Rattle.gw_text.specs.model.World.{class_key};
 
     ghost key = { class_key };
@@ -14,7 +17,7 @@ impl Keyed for GatewayClass {
     }
 }
 
-impl Keyed for Gateway {
+impl Keyed for GatewayFields {
     ghost use Rattle.gw_text.specs.model.World.{gateway_key};
 
     ghost key = { gateway_key };
@@ -24,7 +27,7 @@ impl Keyed for Gateway {
     }
 }
 
-impl Keyed for HttpRoute {
+impl Keyed for HttpRouteFields {
     ghost use Rattle.gw_text.specs.model.World.{route_key};
 
     ghost key = { route_key };
@@ -34,7 +37,7 @@ impl Keyed for HttpRoute {
     }
 }
 
-impl Keyed for ReferenceGrant {
+impl Keyed for ReferenceGrantFields {
     ghost use Rattle.gw_text.specs.model.World.{grant_key};
 
     ghost key = { grant_key };
@@ -44,7 +47,7 @@ impl Keyed for ReferenceGrant {
     }
 }
 
-impl Keyed for Namespace {
+impl Keyed for NamespaceFields {
     ghost use Rattle.gw_text.specs.model.World.{namespace_key};
 
     ghost key = { namespace_key };
@@ -54,7 +57,7 @@ impl Keyed for Namespace {
     }
 }
 
-impl Keyed for Service {
+impl Keyed for ServiceFields {
     ghost use Rattle.gw_text.specs.model.World.{service_key};
 
     ghost key = { service_key };
@@ -64,7 +67,7 @@ impl Keyed for Service {
     }
 }
 
-impl Keyed for EndpointSlice {
+impl Keyed for EndpointSliceFields {
     ghost use Rattle.gw_text.specs.model.World.{slice_key};
 
     ghost key = { slice_key };

@@ -1,17 +1,17 @@
-ghost use Rattle.std.specs.Prelude.{◌≡◌, ◌↔◌, IsTrue, ℕ, ◌+◌, ◌-◌, ◌<◌, ◌≤◌, List, [], ◌++◌, length, codes, OnOk, MatchResult, is_some, option_copied};
+ghost use Rattle.std.specs.Prelude.{◌≡◌, ◌↔◌, IsTrue, ℕ, ◌<◌, List, [], ◌++◌, length, codes, OnOk, MatchResult, is_some, option_copied};
 ghost use Rattle.std.specs.Ordering.{is_lt};
 ghost use Rattle.gw_text.specs.model.World.{is_in_namespace, in_namespace};
 ghost use Rattle.std.specs.List.Sorted.{IsSearchInRange};
 ghost use Rattle.gw_text.specs.model.Names.{joined};
-ghost use Rattle.gw_text.specs.model.Held.{put, remove, objects_of, held_of, object_of, key_order, IsInKeyOrder};
+ghost use Rattle.gw_text.specs.model.Held.{put, remove, held_of, held_key, key_order, IsInKeyOrder};
 ghost use Rattle.gw_store.specs.Table.{StandsAt, IsMissingAt};
 
-use gw_text::{Key, NoMemory, Second, Text};
+use gw_text::{Held, Key, NoMemory, Second, Text};
 use std::alloc::Global;
 use std::cmp::Ordering;
 use std::marker::Model;
 
-/// An object with a key, in whose order it is held.
+/// The fields of an object with a key, in whose order it is held.
 pub trait Keyed {
     ghost use Rattle.gw_text.specs.model.Names.{joined};
 
@@ -23,30 +23,22 @@ pub trait Keyed {
         ensures { joined result.now ≡ key self.now };
 }
 
-/// The objects of one kind in key order, each with the moment at which its key was first put. They stand side by
-/// side, so that all objects are one slice.
+/// The objects of one kind in key order.
 #[derive(Drop)]
 pub struct Table<T: Keyed + Drop> {
-    objects: Vec<T>,
-    firsts: Vec<Second>,
+    held: Vec<Held<T>>,
 }
 
 impl<T: Keyed + Drop> Model for Table<T> {
-    ghost use Rattle.std.specs.Prelude.{◌≡◌, ◌-◌, length, min, vec_len, vec_capacity};
+    ghost use Rattle.std.specs.Prelude.{◌-◌, vec_len, vec_capacity};
     ghost use Rattle.gw_text.specs.model.Held.{IsInKeyOrder};
-    ghost use Rattle.gw_store.specs.Table.{Rows, held};
+    ghost use Rattle.gw_store.specs.Table.{Rows};
 
     ghost Value = { Rows T };
 
-    ghost view = { λ t. record {
-      held = held t.objects.items t.firsts.items;
-      spare = min (vec_capacity t.objects - vec_len t.objects) (vec_capacity t.firsts - vec_len t.firsts);
-    } };
+    ghost view = { λ t. record { held = t.held.items; spare = vec_capacity t.held - vec_len t.held } };
 
-    ghost invariant = { λ t. record {
-      alike : length t.objects.items ≡ length t.firsts.items;
-      ordered : IsInKeyOrder T.key t.objects.items;
-    } };
+    ghost invariant = { λ t. IsInKeyOrder T.key t.held.items };
 }
 
 impl<T: Keyed + Drop> Table<T> {
@@ -55,8 +47,7 @@ impl<T: Keyed + Drop> Table<T> {
         ensures { result.held ≡ [] }
     {
         Table {
-            objects: Vec::new(alloc),
-            firsts: Vec::new(alloc),
+            held: Vec::new(alloc),
         }
     }
 
@@ -65,16 +56,15 @@ impl<T: Keyed + Drop> Table<T> {
         ensures held { self.new.held ≡ self.old.held }
         ensures ok { OnOk result (0 < self.new.spare) }
     {
-        self.objects.reserve(1)?;
-        self.firsts.reserve(1)
+        self.held.reserve(1)
     }
 
     /// The objects in key order.
-    pub fn objects(&self) -> &[T]
-        ensures value { result.now ≡ objects_of self.now.held }
+    pub fn objects(&self) -> &[Held<T>]
+        ensures value { result.now ≡ self.now.held }
         ensures order { IsInKeyOrder T.key result.now }
     {
-        self.objects.as_slice()
+        self.held.as_slice()
     }
 
     /// How many objects are held.
@@ -85,16 +75,16 @@ impl<T: Keyed + Drop> Table<T> {
     }
 
     /// Holds `object` under its key, in place of the one that is held there, whose first moment stays.
-    pub fn put(&mut self, object: T, now: Second)
+    pub fn put(&mut self, object: Held<T>, now: Second)
         requires { 0 < self.old.spare }
-        ensures { self.new.held ≡ put T.key object now self.old.held }
+        ensures { self.new.held ≡ put T.key object.object now self.old.held }
     {
-        match place(self.objects.as_slice(), object.key()) {
-            Ok(at) => self.objects[at] = object,
-            Err(at) => {
-                self.objects.insert(at, object).unwrap();
-                self.firsts.insert(at, now).unwrap();
+        match place(self.held.as_slice(), object.key()) {
+            Ok(at) => {
+                let first = self.held[at].first();
+                self.held[at] = object.since(first);
             }
+            Err(at) => self.held.insert(at, object.since(now)).unwrap(),
         }
     }
 
@@ -102,10 +92,9 @@ impl<T: Keyed + Drop> Table<T> {
     pub fn remove(&mut self, key: &Key)
         ensures { self.new.held ≡ remove T.key (joined key.now) self.old.held }
     {
-        match place(self.objects.as_slice(), key) {
+        match place(self.held.as_slice(), key) {
             Ok(at) => {
-                self.objects.remove(at);
-                self.firsts.remove(at);
+                self.held.remove(at);
             }
             Err(_) => {}
         }
@@ -119,21 +108,21 @@ impl<T: Keyed + Drop> Table<T> {
     }
 
     /// The object that is held under `key`.
-    pub fn get(&self, key: &Key) -> Option<&T>
-        ensures { option_copied result ≡ object_of T.key (joined key.now) self.now.held }
+    pub fn get(&self, key: &Key) -> Option<&Held<T>>
+        ensures { option_copied result ≡ held_of T.key (joined key.now) self.now.held }
     {
-        match place(self.objects.as_slice(), key) {
-            Ok(at) => Some(&self.objects[at]),
+        match place(self.held.as_slice(), key) {
+            Ok(at) => Some(&self.held[at]),
             Err(_) => None,
         }
     }
 
     /// The objects of a namespace, in key order.
-    pub fn in_namespace(&self, namespace: &Text) -> &[T]
+    pub fn in_namespace(&self, namespace: &Text) -> &[Held<T>]
         ensures value { result.now ≡ in_namespace T.key namespace.now self.now.held }
         ensures order { IsInKeyOrder T.key result.now }
     {
-        let objects = self.objects.as_slice();
+        let objects = self.held.as_slice();
         let first = objects.partition_point(|object| is_before(object, namespace));
         let rest = &objects[first..];
         let count = rest.partition_point(|object| is_in(object, namespace));
@@ -141,31 +130,31 @@ impl<T: Keyed + Drop> Table<T> {
     }
 }
 
-fn is_before<T: Keyed>(object: &T, namespace: &Text) -> bool
-    ensures { result ≡ is_lt (key_order (T.key object.now) (namespace.now ++ codes "/")) }
+fn is_before<T: Keyed + Drop>(object: &Held<T>, namespace: &Text) -> bool
+    ensures { result ≡ is_lt (key_order (held_key T.key object.now) (namespace.now ++ codes "/")) }
 {
     object.key().is_before(namespace)
 }
 
-fn is_in<T: Keyed>(object: &T, namespace: &Text) -> bool
-    ensures { result ≡ is_in_namespace namespace.now (T.key object.now) }
+fn is_in<T: Keyed + Drop>(object: &Held<T>, namespace: &Text) -> bool
+    ensures { result ≡ is_in_namespace namespace.now (held_key T.key object.now) }
 {
     object.key().is_in(namespace)
 }
 
 // Where the object of `key` stands, or where it would stand.
-fn place<T: Keyed>(objects: &[T], key: &Key) -> Result<usize, usize>
-    requires { IsInKeyOrder T.key objects.now }
-    ensures range { IsSearchInRange result (length objects.now) }
-    ensures place { MatchResult result (StandsAt T.key (joined key.now) objects.now) (IsMissingAt T.key (joined key.now) objects.now) }
+fn place<T: Keyed + Drop>(held: &[Held<T>], key: &Key) -> Result<usize, usize>
+    requires { IsInKeyOrder T.key held.now }
+    ensures range { IsSearchInRange result (length held.now) }
+    ensures place { MatchResult result (StandsAt T.key (joined key.now) held.now) (IsMissingAt T.key (joined key.now) held.now) }
 {
-    objects.binary_search_by(|object| compare(object, key))
+    held.binary_search_by(|object| compare(object, key))
 }
 
 // Most objects stand in one namespace, where the names decide.
 #[tactic(auto, using(crate::proofs::Fronts::by_name))]
-fn compare<T: Keyed>(object: &T, key: &Key) -> Ordering
-    ensures { result ≡ key_order (T.key object.now) (joined key.now) }
+fn compare<T: Keyed + Drop>(object: &Held<T>, key: &Key) -> Ordering
+    ensures { result ≡ key_order (held_key T.key object.now) (joined key.now) }
 {
     let own = object.key();
     if are_in_one_namespace(own, key) {

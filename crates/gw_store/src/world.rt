@@ -1,6 +1,6 @@
 ghost use Rattle.std.specs.Prelude.{◌≡◌, ◌↔◌, ◌<◌, false, nat_le, IsOk, IfErr, OnOk, option_copied};
 ghost use Rattle.gw_text.specs.model.Names.{joined};
-ghost use Rattle.gw_text.specs.model.Held.{objects_of, object_of, IsInKeyOrder};
+ghost use Rattle.gw_text.specs.model.Held.{held_of, IsInKeyOrder};
 ghost use Rattle.gw_text.specs.model.World as worlds;
 ghost use Rattle.gw_store.specs.Seen.{seen_kind};
 ghost use Rattle.gw_store.specs.SeenEvents.{seen_object, seen_event};
@@ -9,8 +9,11 @@ use crate::event::{Event, Object};
 use crate::kind::Kind;
 use crate::table::Table;
 use gw_json::Refusal;
-use gw_objects::{EndpointSlice, Gateway, GatewayClass, Namespace, ReferenceGrant, Service};
-use gw_route::HttpRoute;
+use gw_objects::{
+    EndpointSlice, EndpointSliceFields, Gateway, GatewayClass, GatewayClassFields, GatewayFields,
+    Namespace, NamespaceFields, ReferenceGrant, ReferenceGrantFields, Service, ServiceFields,
+};
+use gw_route::{HttpRoute, HttpRouteFields};
 use gw_text::{Key, NoMemory, Second, Text};
 use std::alloc::Global;
 use std::marker::Model;
@@ -24,13 +27,13 @@ pub const MOST_ROUTES: usize = 16_384;
 /// The objects that are held, kind by kind, and the number of the changes that led here.
 #[derive(Drop)]
 pub struct World {
-    classes: Table<GatewayClass>,
-    gateways: Table<Gateway>,
-    routes: Table<HttpRoute>,
-    grants: Table<ReferenceGrant>,
-    namespaces: Table<Namespace>,
-    services: Table<Service>,
-    slices: Table<EndpointSlice>,
+    classes: Table<GatewayClassFields>,
+    gateways: Table<GatewayFields>,
+    routes: Table<HttpRouteFields>,
+    grants: Table<ReferenceGrantFields>,
+    namespaces: Table<NamespaceFields>,
+    services: Table<ServiceFields>,
+    slices: Table<EndpointSliceFields>,
     changes: u64,
 }
 
@@ -198,42 +201,42 @@ impl World {
 
     /// The GatewayClass of this key.
     pub fn class(&self, key: &Key) -> Option<&GatewayClass>
-        ensures { option_copied result ≡ object_of worlds.class_key (joined key.now) self.now.world.classes }
+        ensures { option_copied result ≡ held_of worlds.class_key (joined key.now) self.now.world.classes }
     {
         self.classes.get(key)
     }
 
     /// The Gateway of this key.
     pub fn gateway(&self, key: &Key) -> Option<&Gateway>
-        ensures { option_copied result ≡ object_of worlds.gateway_key (joined key.now) self.now.world.gateways }
+        ensures { option_copied result ≡ held_of worlds.gateway_key (joined key.now) self.now.world.gateways }
     {
         self.gateways.get(key)
     }
 
     /// The HTTPRoute of this key.
     pub fn route(&self, key: &Key) -> Option<&HttpRoute>
-        ensures { option_copied result ≡ object_of worlds.route_key (joined key.now) self.now.world.routes }
+        ensures { option_copied result ≡ held_of worlds.route_key (joined key.now) self.now.world.routes }
     {
         self.routes.get(key)
     }
 
     /// The Service of this key.
     pub fn service(&self, key: &Key) -> Option<&Service>
-        ensures { option_copied result ≡ object_of worlds.service_key (joined key.now) self.now.world.services }
+        ensures { option_copied result ≡ held_of worlds.service_key (joined key.now) self.now.world.services }
     {
         self.services.get(key)
     }
 
     /// The Namespace of this key.
     pub fn namespace(&self, key: &Key) -> Option<&Namespace>
-        ensures { option_copied result ≡ object_of worlds.namespace_key (joined key.now) self.now.world.namespaces }
+        ensures { option_copied result ≡ held_of worlds.namespace_key (joined key.now) self.now.world.namespaces }
     {
         self.namespaces.get(key)
     }
 
     /// All GatewayClasses, in key order.
     pub fn classes(&self) -> &[GatewayClass]
-        ensures value { result.now ≡ objects_of self.now.world.classes }
+        ensures value { result.now ≡ self.now.world.classes }
         ensures order { IsInKeyOrder worlds.class_key result.now }
     {
         self.classes.objects()
@@ -241,7 +244,7 @@ impl World {
 
     /// All Gateways, in key order.
     pub fn gateways(&self) -> &[Gateway]
-        ensures value { result.now ≡ objects_of self.now.world.gateways }
+        ensures value { result.now ≡ self.now.world.gateways }
         ensures order { IsInKeyOrder worlds.gateway_key result.now }
     {
         self.gateways.objects()
@@ -249,7 +252,7 @@ impl World {
 
     /// All HTTPRoutes, in key order.
     pub fn routes(&self) -> &[HttpRoute]
-        ensures value { result.now ≡ objects_of self.now.world.routes }
+        ensures value { result.now ≡ self.now.world.routes }
         ensures order { IsInKeyOrder worlds.route_key result.now }
     {
         self.routes.objects()
@@ -257,7 +260,7 @@ impl World {
 
     /// All Namespaces, in key order.
     pub fn namespaces(&self) -> &[Namespace]
-        ensures value { result.now ≡ objects_of self.now.world.namespaces }
+        ensures value { result.now ≡ self.now.world.namespaces }
         ensures order { IsInKeyOrder worlds.namespace_key result.now }
     {
         self.namespaces.objects()
@@ -265,7 +268,7 @@ impl World {
 
     /// All ReferenceGrants, in key order.
     pub fn grants(&self) -> &[ReferenceGrant]
-        ensures value { result.now ≡ objects_of self.now.world.grants }
+        ensures value { result.now ≡ self.now.world.grants }
         ensures order { IsInKeyOrder worlds.grant_key result.now }
     {
         self.grants.objects()
@@ -273,7 +276,7 @@ impl World {
 
     /// All Services, in key order.
     pub fn services(&self) -> &[Service]
-        ensures value { result.now ≡ objects_of self.now.world.services }
+        ensures value { result.now ≡ self.now.world.services }
         ensures order { IsInKeyOrder worlds.service_key result.now }
     {
         self.services.objects()
@@ -281,7 +284,7 @@ impl World {
 
     /// All EndpointSlices, in key order.
     pub fn slices(&self) -> &[EndpointSlice]
-        ensures value { result.now ≡ objects_of self.now.world.slices }
+        ensures value { result.now ≡ self.now.world.slices }
         ensures order { IsInKeyOrder worlds.slice_key result.now }
     {
         self.slices.objects()

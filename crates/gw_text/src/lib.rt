@@ -2,10 +2,10 @@
 // lists that the contracts of every crate above speak of.
 #![tactic(auto)]
 
-mod boxed;
 mod door;
 mod doors;
 mod field;
+mod held;
 mod host;
 mod ipv4;
 mod key;
@@ -17,10 +17,10 @@ mod socket;
 mod tests;
 mod text;
 
-pub use boxed::Boxed;
 pub use door::Door;
 pub use doors::{DoorFault, Doors};
 pub use field::Field;
+pub use held::Held;
 pub use host::Host;
 pub use ipv4::{Ipv4, parse_ipv4};
 pub use key::Key;

@@ -10,6 +10,10 @@ pub record Held (T : Type 0) : Type 0 where
   pub object : T
   pub first : ℤ
 
+-- The text by which a held object is ordered: its key's.
+abbrev pub held_key : {T : Type 0} → (T → List ℕ) → Held T → List ℕ
+held_key key h = key h.object
+
 -- The held objects without their moments.
 abbrev pub objects_of : {T : Type 0} → List (Held T) → List T
 objects_of held = map (λ h. h.object) held
@@ -21,10 +25,6 @@ key_order = slice_cmp nat_cmp
 -- The held object of a key.
 abbrev pub held_of : {T : Type 0} → (T → List ℕ) → List ℕ → List (Held T) → Option (Held T)
 held_of key name held = find (λ h. is_eq (key_order (key h.object) name)) held
-
--- The object that is held under a key.
-abbrev pub object_of : {T : Type 0} → (T → List ℕ) → List ℕ → List (Held T) → Option T
-object_of key name held = option_map (λ h. h.object) (held_of key name held)
 
 -- The moment at which the key was first put: that of the object that stands there, or now.
 abbrev pub first_moment : {T : Type 0} → (T → List ℕ) → List ℕ → ℤ → List (Held T) → ℤ
@@ -42,5 +42,5 @@ unfoldable pub remove : {T : Type 0} → (T → List ℕ) → List ℕ → List 
 remove key name held = filter (λ h. not (is_eq (key_order (key h.object) name))) held
 
 -- Each key stands before those after it, so none stands twice.
-abbrev pub IsInKeyOrder : {T : Type 0} → (T → List ℕ) → List T → Type 0
-IsInKeyOrder key objects = IsStrictlySortedBy key_order (map key objects)
+abbrev pub IsInKeyOrder : {T : Type 0} → (T → List ℕ) → List (Held T) → Type 0
+IsInKeyOrder key held = IsStrictlySortedBy key_order (map (held_key key) held)

@@ -10,7 +10,7 @@ use Rattle.gw_text.specs.model.Routes.{HttpRoute}
 use Rattle.gw_text.specs.model.Services.{Service}
 use Rattle.gw_text.specs.model.Slices.{EndpointSlice}
 use Rattle.gw_text.specs.model.Objects.{Kind, class_kind, gateway_kind, route_kind, grant_kind, namespace_kind, service_kind, slice_kind, Object, a_class, a_gateway, a_route, a_grant, a_namespace, a_service, a_slice, Event, puts, removes, Change}
-use Rattle.gw_text.specs.model.Held.{Held, held_of, objects_of, put, remove}
+use Rattle.gw_text.specs.model.Held.{Held, held_of, put, remove}
 
 -- The text by which the objects of each kind are ordered: `namespace/name`, or the name alone.
 abbrev pub class_key : GatewayClass → List ℕ
@@ -134,5 +134,5 @@ abbrev pub is_in_namespace : List ℕ → List ℕ → Bool
 is_in_namespace namespace key = starts_with nat_eq key (namespace ++ codes "/")
 
 -- The objects of a namespace.
-abbrev pub in_namespace : {T : Type 0} → (T → List ℕ) → List ℕ → List (Held T) → List T
-in_namespace key namespace held = filter (λ x. is_in_namespace namespace (key x)) (objects_of held)
+abbrev pub in_namespace : {T : Type 0} → (T → List ℕ) → List ℕ → List (Held T) → List (Held T)
+in_namespace key namespace held = filter (λ h. is_in_namespace namespace (key h.object)) held

@@ -6,5 +6,5 @@ use Rattle.gateward.proofs.evaluate.class_statuses.Given as goal
 
 abbrev pub invariant-classes : goal.invariant-classes
 invariant-classes l =
-    l.all ++ map class_status_of (filter (is_ours l.controller) (drop l.class-index l.class-items))
+    l.all ++ map class_status_of (filter (is_ours l.controller) (objects_of (drop l.class-index l.class-items)))
     ≡ map class_status_of (filter (is_ours l.controller) (objects_of l.world.world.classes))

@@ -6,5 +6,5 @@ use Rattle.gateward.proofs.evaluate.gateway_statuses.Given as goal
 
 abbrev pub invariant-gateways : goal.invariant-gateways
 invariant-gateways l =
-    l.all ++ map (gateway_status_of l.setting.doors) (filter (is_managed l.setting.controller l.world.world) (drop l.gateway-index l.gateway-items))
+    l.all ++ map (gateway_status_of l.setting.doors) (filter (is_managed l.setting.controller l.world.world) (objects_of (drop l.gateway-index l.gateway-items)))
     ≡ map (gateway_status_of l.setting.doors) (filter (is_managed l.setting.controller l.world.world) (objects_of l.world.world.gateways))

@@ -5,4 +5,4 @@ use Rattle.gw_listener.specs.Seen.{seen_state}
 use Rattle.gw_listener.proofs.listener.listener_states.Given as goal
 
 abbrev pub invariant-listeners : goal.invariant-listeners
-invariant-listeners l = map seen_state l.states ≡ map (listener_state l.doors l.gateway) (take l.listener-index l.gateway.listeners)
+invariant-listeners l = map seen_state l.states ≡ map (listener_state l.doors l.gateway.object) (take l.listener-index l.gateway.object.listeners)

@@ -1,28 +1,23 @@
 -- A put at the place of the key.
-use Rattle.std.proofs.Common.{rules}
 use Rattle.gw_store.proofs.Places.{put-standing, put-missing, ordered-set, ordered-insert}
 use Rattle.gw_store.proofs.table.Table.put.Goals as goal
 
 pub invariant_of-self : goal.invariant_of-self
 invariant_of-self g c =
-    let place = rw (c.as_slice.ensures.value, c.key.ensures) at c.in-Ok.ensures.place
-    in record { alike = search rules; ordered = ordered-set g.T.Keyed.key _ _ _ c.self.invariant.ordered place }
+    let place = rw (c.as_slice.ensures.value, c.key.ensures, c.deref.ensures) at c.in-Ok.ensures.place
+    in rw c.since.ensures (ordered-set g.T.Keyed.key _ _ _ c.self.invariant place)
 
 pub invariant_of-self-in-Err : goal.invariant_of-self-in-Err
 invariant_of-self-in-Err g c =
-    let place = rw (c.as_slice.ensures.value, c.key.ensures) at c.in-Err.ensures.place
-    in record {
-      alike = rw (c.insert.ensures.items, c.unwrap.ensures, c.insert-in-Err.ensures.items, c.unwrap-in-Err.ensures) (search rules);
-      ordered = rw (c.insert.ensures.items, c.unwrap.ensures) (ordered-insert g.T.Keyed.key _ _ _ c.self.invariant.ordered place);
-    }
+    let place = rw (c.as_slice.ensures.value, c.key.ensures, c.deref.ensures) at c.in-Err.ensures.place
+    in rw (c.insert.ensures.items, c.unwrap.ensures, c.since-in-Err.ensures) (ordered-insert g.T.Keyed.key _ _ _ c.self.invariant place)
 
 pub returns-in-Ok : goal.returns-in-Ok
 returns-in-Ok g c =
-    let place = rw (c.as_slice.ensures.value, c.key.ensures) at c.in-Ok.ensures.place
-    in rw (← c.self.view_is) (put-standing g.T.Keyed.key _ _ _ _ _ c.self.invariant.alike place)
+    let place = rw (c.as_slice.ensures.value, c.key.ensures, c.deref.ensures) at c.in-Ok.ensures.place
+    in rw (c.since.ensures, c.first-first.ensures, c.index.ensures, ← c.self.view_is) (put-standing g.T.Keyed.key _ _ _ _ _ place)
 
 pub returns-in-Err : goal.returns-in-Err
 returns-in-Err g c =
-    let place = rw (c.as_slice.ensures.value, c.key.ensures) at c.in-Err.ensures.place
-    in rw (c.insert.ensures.items, c.unwrap.ensures, c.insert-in-Err.ensures.items, c.unwrap-in-Err.ensures, ← c.self.view_is)
-    (put-missing g.T.Keyed.key _ _ _ _ _ c.self.invariant.alike place)
+    let place = rw (c.as_slice.ensures.value, c.key.ensures, c.deref.ensures) at c.in-Err.ensures.place
+    in rw (c.insert.ensures.items, c.unwrap.ensures, c.since-in-Err.ensures, ← c.self.view_is) (put-missing g.T.Keyed.key _ _ _ _ place)

@@ -1,21 +1,17 @@
 -- A removal at the place of the key.
-use Rattle.std.proofs.Common.{rules}
 use Rattle.gw_text.specs.model.Names.{joined}
-use Rattle.gw_store.proofs.Places.{remove-standing, remove-missing, ordered-remove, alike-remove}
+use Rattle.gw_store.proofs.Places.{remove-standing, remove-missing, ordered-remove}
 use Rattle.gw_store.proofs.table.Table.remove.Goals as goal
 
 pub invariant_of-self : goal.invariant_of-self
-invariant_of-self g c = record {
-  alike = rw (c.remove.ensures.items, c.remove-in-Ok.ensures.items) (alike-remove _ _ _ c.self.invariant.alike);
-  ordered = rw c.remove.ensures.items (ordered-remove g.T.Keyed.key _ _ c.self.invariant.ordered);
-}
+invariant_of-self g c = rw c.remove.ensures.items (ordered-remove g.T.Keyed.key _ _ c.self.invariant)
 
 pub returns-in-Ok : goal.returns-in-Ok
 returns-in-Ok g c =
     let place = rw c.as_slice.ensures.value at c.in-Ok.ensures.place
-    in rw (c.remove.ensures.items, c.remove-in-Ok.ensures.items, ← c.self.view_is) (remove-standing g.T.Keyed.key (joined c.args.key.now) _ _ _ c.self.invariant.alike place)
+    in rw (c.remove.ensures.items, ← c.self.view_is) (remove-standing g.T.Keyed.key (joined c.args.key.now) _ _ place)
 
 pub returns-in-Err : goal.returns-in-Err
 returns-in-Err g c =
     let place = rw c.as_slice.ensures.value at c.in-Err.ensures.place
-    in rw (← c.self.view_is) (remove-missing g.T.Keyed.key (joined c.args.key.now) _ _ _ place)
+    in rw (← c.self.view_is) (remove-missing g.T.Keyed.key (joined c.args.key.now) _ _ place)
