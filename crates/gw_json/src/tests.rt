@@ -354,14 +354,17 @@ fn row(alloc: Global, call: &[u8], at: &Cursor<'_>) -> Result<String, Refusal> {
         b"m" => Ok(format!(in alloc; "{}", at.list(alloc, "l", 2)?.len())?),
         b"e" => Ok(format!(in alloc; "{}", at.field_members(alloc, "spec")?.len())?),
         b"i" => Ok(format!(in alloc; "{}", ports_in(alloc, at)?)?),
+        b"n" => Ok(format!(in alloc;
+            "{}",
+            at.need_field(alloc, "t")?.cursor(alloc)?.path.as_str()
+        )?),
+        b"b" => Err(at.need_field(alloc, "t")?.bad_value(alloc)?),
         _ => Ok(format!(in alloc; "{}", at.is_given(alloc, "t")?)?),
     }
 }
 
-#[test]
-fn rows(rt: HostRuntime) -> Result<(), Fail> {
-    let alloc = rt.alloc();
-    let table = b"p {\"p\":80} 80
+// A call, an object, and what the call answers there.
+const ROWS: &[u8] = b"p {\"p\":80} 80
 p {} 3 p
 p {\"p\":0} 5 p
 p {\"p\":65536} 5 p
@@ -388,10 +391,17 @@ e {\"spec\":0} 4 spec
 i {\"ports\":[80,81]} 161
 i {\"ports\":[80,0]} 5 ports[1]
 i {} 0
+n {\"t\":0} t
+n {} 3 t
+b {\"t\":0} 5 t
 g {\"t\":0} true
 g {\"t\":null} false
 g [] 4 ";
-    for line in table.split(|b| *b == b'\n') {
+
+#[test]
+fn rows(rt: HostRuntime) -> Result<(), Fail> {
+    let alloc = rt.alloc();
+    for line in ROWS.split(|b| *b == b'\n') {
         let mut parts = line.splitn(3, |b| *b == b' ');
         let (call, text, want) = (parts.next(), parts.next(), parts.next());
         let value = read_value(alloc, text.unwrap_or(b""))
