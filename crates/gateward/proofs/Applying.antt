@@ -1,5 +1,5 @@
 -- What a line does.
-use Rattle.std.proofs.Common.{◌≡◌, ℕ, ℤ, ◌+◌, Bool, true, false, not, List, [], ◌∷◌, ◌++◌, length, Option, None, Some, Result, Ok, Err, refl, sym, ap, arith, append-nil, append_assoc, ◌∙◌, filter, length-append, cond, IfSome, Bor, ◌<◌, ◌≤◌, fold, flat_map, string_bytes}
+use Rattle.std.proofs.Common.{◌≡◌, ℕ, ℤ, ◌+◌, true, false, List, [], ◌∷◌, ◌++◌, length, Option, None, Some, Result, Ok, Err, refl, sym, ap, arith, append-nil, append_assoc, ◌∙◌, filter, length-append, IfSome, Bor, ◌<◌, ◌≤◌, string_bytes}
 use Rattle.std.specs.Option.{option_copied}
 use Rattle.std.proofs.lemmas.List.Elements.{filter-append}
 use Rattle.gw_json.specs.declared.refusal.Refusal.{Refusal}

@@ -1,5 +1,5 @@
 -- Where listeners or their states are used up.
-use Rattle.std.proofs.Common.{◌≡◌, ℕ, ◌∙◌, sym, List, [], ◌∷◌, ◌++◌, map, length, refl, arith, append-nil}
+use Rattle.std.proofs.Common.{◌≡◌, ◌∙◌, sym, List, [], ◌∷◌, ◌++◌, map, length, refl, arith, append-nil}
 use Rattle.gw_text.specs.model.Gateways.{Listener}
 use Rattle.gw_text.specs.model.Statuses.{ListenerStatus, listener_statuses_of}
 use Rattle.gw_listener.specs.Seen.{seen_state}

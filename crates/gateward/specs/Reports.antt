@@ -1,5 +1,5 @@
 -- What the program keeps of the lines that it has answered.
-use Rattle.std.specs.Prelude.{◌≡◌, ℕ, ℤ, ◌+◌, List, [], ◌∷◌, ◌++◌, length, Option, Result, Ok, filter, string_bytes}
+use Rattle.std.specs.Prelude.{◌≡◌, ℕ, ℤ, ◌+◌, List, ◌++◌, length, Option, Ok, filter, string_bytes}
 use Rattle.gw_json.specs.declared.refusal.Refusal.{Refusal}
 use Rattle.gw_json.specs.declared.refusal.Refusal.TheVariants.{NoMemory}
 use Rattle.gw_json.specs.Lines.{line_of}

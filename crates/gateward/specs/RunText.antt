@@ -1,5 +1,5 @@
 -- What `gateward status` writes.
-use Rattle.std.specs.Prelude.{ℕ, ℤ, List, [], ◌∷◌, ◌++◌, length, codes, Bool, nat_lt, Option, None, Some, flat_map}
+use Rattle.std.specs.Prelude.{ℕ, ℤ, List, ◌++◌, length, codes, Bool, nat_lt, Option, None, Some, flat_map}
 use Rattle.serde_json.specs.Data.{Data, number, unsigned, string, object, member, no_members}
 use Rattle.gw_json.specs.Lines.{line_of}
 use Rattle.gw_text.specs.model.World.{world_of}

@@ -1,5 +1,5 @@
 -- What a run of the program reads and writes, and how it ends.
-use Rattle.std.specs.Prelude.{◌≡◌, ℕ, ℤ, ◌<◌, ◌⊎◌, List, [], ◌++◌, length, take, filter, codes, Bool, if◌then◌else◌, Option, Some, Result, Ok, Err}
+use Rattle.std.specs.Prelude.{◌≡◌, ℕ, ℤ, ◌<◌, ◌⊎◌, List, [], ◌++◌, length, take, filter, codes, if◌then◌else◌, Option, Some, Ok, Err}
 use Rattle.gw_link.specs.Faults.{HasRisen}
 use Rattle.gw_link.specs.Pieces.{Takes, TakesPart}
 use Rattle.gw_link.specs.Moments.{TicksInTurn}

@@ -27,13 +27,12 @@ pub fn run<S: Source, K: Sink, C: Clock + Drop>(
     // for want of memory, wherever they have this fault.
     ensures begin { (result ≡ 2) ⊎ (result ≡ 5) → EndsBy result (map string_bytes words.now) (K.written sink.old) (K.written sink.new) (K.faults sink.old) (K.faults sink.new) }
     ensures fault { (fault : StartFault) → start_of (map string_bytes words.now) ≡ Err fault → (result ≡ fault_exit fault) ⊎ (result ≡ 6) }
-    ensures unread { (result ≡ 2) ⊎ (result ≡ 5) → S.left source.new ≡ S.left source.old }
+    ensures unread { (result ≡ 2) ⊎ (result ≡ 5) → (S.left source.new ≡ S.left source.old) × (S.given source.new ≡ S.given source.old) }
 
     // Each other status comes only with its cause.
     ensures read { result ≡ 3 → HasRisen (S.faults source.old) (S.faults source.new) }
     ensures write { result ≡ 4 → HasRisen (K.faults sink.old) (K.faults sink.new) }
-    ensures size { result ≡ 7 → S.given source.old + MOST_INPUT < S.given source.new }
-    ensures sized { S.given source.old + MOST_INPUT < S.given source.new → result ≡ 7 }
+    ensures size { (result ≡ 7) ↔ (S.given source.old + MOST_INPUT < S.given source.new) }
     ensures long { result ≡ 7 → IfSome (S.left source.old) (λ input. MOST_INPUT < length input) }
     ensures exits { IsExit result }
 

@@ -1,6 +1,5 @@
 -- Nothing is left of the one or of the other.
-use Rattle.std.proofs.Common.{◌∙◌, sym, append-nil, map}
-use mathlib.Core.Logic.{◌⊎◌, inl, inr}
+use mathlib.Core.Logic.{inl, inr}
 use Rattle.gateward.proofs.Evaluating.{whole, no_listener, no_state}
 use Rattle.gateward.proofs.evaluate.listener_statuses.Goals as goal
 

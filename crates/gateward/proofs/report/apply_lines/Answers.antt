@@ -1,5 +1,5 @@
 -- One line more.
-use Rattle.std.proofs.Common.{arith, ◌∙◌}
+use Rattle.std.proofs.Common.{arith}
 use Rattle.gateward.proofs.Applying.{applies_more, left_size-shorter}
 use Rattle.gateward.proofs.report.apply_lines.Goals as goal
 

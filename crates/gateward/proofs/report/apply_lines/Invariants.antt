@@ -1,8 +1,7 @@
 -- What is answered so far, and then the lines of the rest, is what all lines are answered.
-use Rattle.std.proofs.Common.{◌≡◌, ℕ, ℤ, ◌+◌, ◌≤◌, List, length, Option}
+use Rattle.std.proofs.Common.{ℤ, ◌+◌, ◌≤◌, List, length, Option}
 use Rattle.std.specs.Option.{option_copied}
 use Rattle.gateward.specs.Lines.{lines_of, lines_left}
-use Rattle.gateward.specs.Outcomes.{nothing_yet, outcome_of, is_asked}
 use Rattle.gateward.specs.Reports.{Applies, IsReport}
 use Rattle.gateward.specs.declared.report.Report.{Report}
 use Rattle.gateward.proofs.Applying.{left_size}
