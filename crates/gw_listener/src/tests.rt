@@ -11,7 +11,7 @@ use gw_objects::{
     Address, AllowedRoutes, FromNamespaces, Gateway, GatewayFields, Listener, RouteKind,
 };
 use gw_status::Condition;
-use gw_text::{Held, Door, Doors, Host, Key, Meta, NoMemory, Socket, Text};
+use gw_text::{Door, Doors, Held, Host, Key, Meta, NoMemory, Socket, Text};
 use std::alloc::Global;
 use std::str;
 use std::test::Fail;
