@@ -11,8 +11,8 @@ use Rattle.gw_text.specs.model.World.{World, nothing, is_full, apply, world_of, 
 use Rattle.gw_link.specs.Moments.{Ticks, TicksInTurn}
 use Rattle.gw_store.specs.Events.{Read, a_change, is_skipped, read_of, answer}
 use Rattle.gateward.specs.Lines.{is_blank}
-use Rattle.gateward.specs.Outcomes.{Outcome, Refused, is_asked, refused_by, answered, outcome_with, outcome_after}
-use Rattle.gateward.specs.RunText.{refused_data, refused_text, summary_data, outcome_text}
+use Rattle.gateward.specs.EventLines.{LineResults, Refused, is_event_line, refused_by, with_line, with_answer, results_after}
+use Rattle.gateward.specs.RunText.{refused_data, refused_text, summary_data, results_text}
 use Rattle.gateward.specs.Starts.{Setting}
 use Rattle.gw_status.specs.StatusText.{statuses_text}
 use Rattle.gw_text.specs.model.Statuses.{statuses_of}
@@ -53,15 +53,15 @@ refused_text-more : (rs : List Refused) (r : Refused) → refused_text (rs ++ r 
 refused_text-more [] r = append-nil (line_of (refused_data r))
 refused_text-more (q ∷ rs) r = rw (refused_text-more rs r) (sym (append_assoc (line_of (refused_data q)) (refused_text rs) (line_of (refused_data r))))
 
-module _ (number : ℕ) (line : List ℕ) (now : ℤ) {before after : Option (List ℤ)} (asked : is_blank line ≡ false) (ticks : Ticks before now after) where
-  applies_by : (old new : Report) → ((o : Outcome) → Tells o old → Tells (answered o (record { number = number; line = line; at = now })) new) → Applies number (line ∷ []) before after old new
-  applies_by old new tells = record { moments = now ∷ []; asked = (after, (ticks, refl)); each = rw asked refl; tells = λ o told. rw asked (tells o told) }
+module _ (number : ℕ) (line : List ℕ) (now : ℤ) {before after : Option (List ℤ)} (event : is_blank line ≡ false) (ticks : Ticks before now after) where
+  applies_by : (old new : Report) → ((o : LineResults) → Tells o old → Tells (with_line o (record { number = number; line = line; at = now })) new) → Applies number (line ∷ []) before after old new
+  applies_by old new tells = record { moments = now ∷ []; in_turn = (after, (ticks, refl)); each = rw event refl; tells = λ o told. rw event (tells o told) }
 
   -- one that is taken
   pub applies_taken : (old new : Report) → string_bytes new.text ≡ string_bytes old.text → new.refused ≡ old.refused → Takes line now old new → Applies number (line ∷ []) before after old new
   applies_taken old new text refused takes = applies_by old new (λ o told. rw (← told.world, takes.is) (tells_taken o told takes.read takes.world takes.skipped))
     where
-      tells_taken : (o : Outcome) → Tells o old → (read : Read) → new.world.world ≡ world_with old.world.world now read → new.skipped ≡ old.skipped + skips read → Tells (outcome_with o (record { number = number; line = line; at = now }) (Ok read)) new
+      tells_taken : (o : LineResults) → Tells o old → (read : Read) → new.world.world ≡ world_with old.world.world now read → new.skipped ≡ old.skipped + skips read → Tells (with_answer o (record { number = number; line = line; at = now }) (Ok read)) new
       tells_taken o told (a_change event) world skipped = record {
         world = world ∙ ap (λ w. apply w (record { event = event; at = now })) told.world ∙ sym (world_after _ o.changes _);
         text = text ∙ told.text;
@@ -84,24 +84,24 @@ module _ (number : ℕ) (line : List ℕ) (now : ℤ) {before after : Option (Li
     skipped = done.skipped ∙ skipped ∙ told.skipped;
   }))
 
--- a clock that was asked in turn is asked on
-asked_on : (before between after : Option (List ℤ)) (first second : List ℤ) → TicksInTurn before first between → TicksInTurn between second after → TicksInTurn before (first ++ second) after
-asked_on before between after [] second here later = rw (← here) later
-asked_on before between after (now ∷ first) second here later = (here.0, (here.1.0, asked_on here.0 between after first second here.1.1 later))
+-- a clock that was read in turn is read on
+in_turn_on : (before between after : Option (List ℤ)) (first second : List ℤ) → TicksInTurn before first between → TicksInTurn between second after → TicksInTurn before (first ++ second) after
+in_turn_on before between after [] second here later = rw (← here) later
+in_turn_on before between after (now ∷ first) second here later = (here.0, (here.1.0, in_turn_on here.0 between after first second here.1.1 later))
 
 -- what comes of one line more
-outcome_more : (o : Outcome) (number : ℕ) (line : List ℕ) (lines : List (List ℕ)) (first second : List ℤ) → length first ≡ length (filter is_asked (line ∷ [])) → outcome_after o number (line ∷ lines) (first ++ second) ≡ outcome_after (outcome_after o number (line ∷ []) first) (number + 1) lines second
-outcome_more o number line lines first second each = elim (is_asked line) as (λ b. is_asked line ≡ b → outcome_after o number (line ∷ lines) (first ++ second) ≡ outcome_after (outcome_after o number (line ∷ []) first) (number + 1) lines second) [
-  | true ↦ λ asked. more_asked asked first (rw asked at each)
+results_more : (o : LineResults) (number : ℕ) (line : List ℕ) (lines : List (List ℕ)) (first second : List ℤ) → length first ≡ length (filter is_event_line (line ∷ [])) → results_after o number (line ∷ lines) (first ++ second) ≡ results_after (results_after o number (line ∷ []) first) (number + 1) lines second
+results_more o number line lines first second each = elim (is_event_line line) as (λ b. is_event_line line ≡ b → results_after o number (line ∷ lines) (first ++ second) ≡ results_after (results_after o number (line ∷ []) first) (number + 1) lines second) [
+  | true ↦ λ event. more_event event first (rw event at each)
   | false ↦ λ blank. more_blank blank first (rw blank at each)
 ] refl
   where
-    more_asked : is_asked line ≡ true → (ms : List ℤ) → length ms ≡ 1 → outcome_after o number (line ∷ lines) (ms ++ second) ≡ outcome_after (outcome_after o number (line ∷ []) ms) (number + 1) lines second
-    more_asked asked [] each = absurd (omega arith)
-    more_asked asked (now ∷ []) each = rw asked refl
-    more_asked asked (now ∷ then ∷ ms) each = absurd (omega arith)
+    more_event : is_event_line line ≡ true → (ms : List ℤ) → length ms ≡ 1 → results_after o number (line ∷ lines) (ms ++ second) ≡ results_after (results_after o number (line ∷ []) ms) (number + 1) lines second
+    more_event event [] each = absurd (omega arith)
+    more_event event (now ∷ []) each = rw event refl
+    more_event event (now ∷ then ∷ ms) each = absurd (omega arith)
 
-    more_blank : is_asked line ≡ false → (ms : List ℤ) → length ms ≡ 0 → outcome_after o number (line ∷ lines) (ms ++ second) ≡ outcome_after (outcome_after o number (line ∷ []) ms) (number + 1) lines second
+    more_blank : is_event_line line ≡ false → (ms : List ℤ) → length ms ≡ 0 → results_after o number (line ∷ lines) (ms ++ second) ≡ results_after (results_after o number (line ∷ []) ms) (number + 1) lines second
     more_blank blank [] each = rw blank refl
     more_blank blank (now ∷ ms) each = absurd (omega arith)
 
@@ -109,9 +109,9 @@ outcome_more o number line lines first second each = elim (is_asked line) as (λ
 pub applies_more : (number : ℕ) (line : List ℕ) (lines : List (List ℕ)) (before between after : Option (List ℤ)) (old mid new : Report) → Applies number (line ∷ []) before between old mid → Applies (number + 1) lines between after mid new → Applies number (line ∷ lines) before after old new
 applies_more number line lines before between after old mid new here later = record {
   moments = here.moments ++ later.moments;
-  asked = asked_on before between after here.moments later.moments here.asked later.asked;
-  each = rw (length-append, here.each, later.each) (sym (ap length (filter-append is_asked (line ∷ []) lines) ∙ length-append _ _));
-  tells = λ o told. rw (outcome_more o number line lines here.moments later.moments here.each) (later.tells _ (here.tells o told));
+  in_turn = in_turn_on before between after here.moments later.moments here.in_turn later.in_turn;
+  each = rw (length-append, here.each, later.each) (sym (ap length (filter-append is_event_line (line ∷ []) lines) ∙ length-append _ _));
+  tells = λ o told. rw (results_more o number line lines here.moments later.moments here.each) (later.tells _ (here.tells o told));
 }
 
 -- how many bytes are left, one more being counted for the line that has no line feed
@@ -123,8 +123,8 @@ pub left_size-shorter : (left : Option (Bor (List ℕ))) (text : List ℕ) → I
 left_size-shorter None text shorter = omega arith
 left_size-shorter (Some rest) text shorter = omega arith
 
--- what a report tells is the text of its outcome
-pub text_told : (setting : Setting) (o : Outcome) (report : Report) → Tells o report →
-    string_bytes report.text ++ statuses_text (statuses_of setting.doors setting.controller report.world.world) ++ line_of (summary_data report.world.world.changes report.refused report.skipped) ≡ outcome_text setting o
-unfolding outcome_text
+-- what a report tells is the text of what came of the lines
+pub text_told : (setting : Setting) (o : LineResults) (report : Report) → Tells o report →
+    string_bytes report.text ++ statuses_text (statuses_of setting.doors setting.controller report.world.world) ++ line_of (summary_data report.world.world.changes report.refused report.skipped) ≡ results_text setting o
+unfolding results_text
 text_told setting o report told = rw (told.text, told.world, told.refused, told.skipped, changes_all o.changes) refl

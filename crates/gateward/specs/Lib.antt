@@ -1,10 +1,11 @@
+pub mod EventLines
+pub mod Faults
 pub mod Lines
-pub mod Outcomes
+pub mod Outputs
 pub mod Plain
 pub mod Readings
 pub mod Reports
 pub mod RunText
 pub mod Runs
 pub mod Starts
-pub mod Statuses
 pub mod Words

@@ -1,4 +1,4 @@
--- What the program keeps of the lines that it has answered.
+-- What the program keeps of the lines that it has read.
 use Rattle.std.specs.Prelude.{◌≡◌, ℕ, ℤ, ◌+◌, List, ◌++◌, length, Option, Ok, filter, string_bytes}
 use Rattle.gw_json.specs.declared.refusal.Refusal.{Refusal}
 use Rattle.gw_json.specs.declared.refusal.Refusal.TheVariants.{NoMemory}
@@ -6,36 +6,37 @@ use Rattle.gw_json.specs.Lines.{line_of}
 use Rattle.gw_link.specs.Moments.{TicksInTurn}
 use Rattle.gw_text.specs.model.World.{World, world_of, apply}
 use Rattle.gw_store.specs.Events.{Read, a_change, is_skipped, answer}
-use Rattle.gateward.specs.Outcomes.{Outcome, is_asked, refused_by, outcome_after, outcome_of}
+use Rattle.gateward.specs.EventLines.{LineResults, is_event_line, refused_by, results_after, results_of}
 use Rattle.gateward.specs.RunText.{refused_data, refused_text}
 use Rattle.gateward.specs.declared.report.Report.{Report}
 
--- The report tells of this outcome.
-pub record Tells (outcome : Outcome) (report : Report) : Type 0 where
-  pub world : report.world.world ≡ world_of outcome.changes
-  pub text : string_bytes report.text ≡ refused_text outcome.refused
-  pub refused : report.refused ≡ length outcome.refused
-  pub skipped : report.skipped ≡ outcome.skipped
+-- The report tells what came of some lines.
+pub record Tells (results : LineResults) (report : Report) : Type 0 where
+  pub world : report.world.world ≡ world_of results.changes
+  pub text : string_bytes report.text ≡ refused_text results.refused
+  pub refused : report.refused ≡ length results.refused
+  pub skipped : report.skipped ≡ results.skipped
 
--- From one report to another by these lines, the clock being asked once before each that isn't blank.
+-- From one report to another by these lines, the clock being read once before each that isn't blank.
 pub record Applies (first : ℕ) (lines : List (List ℕ)) (before after : Option (List ℤ)) (old new : Report) : Type 0 where
   pub moments : List ℤ
-  pub asked : TicksInTurn before moments after
-  pub each : length moments ≡ length (filter is_asked lines)
-  pub tells : (outcome : Outcome) → Tells outcome old → Tells (outcome_after outcome first lines moments) new
+  pub in_turn : TicksInTurn before moments after
+  pub each : length moments ≡ length (filter is_event_line lines)
+  pub tells : (results : LineResults) → Tells results old → Tells (results_after results first lines moments) new
 
 -- The report of all these lines.
 pub record IsReport (lines : List (List ℕ)) (before after : Option (List ℤ)) (report : Report) : Type 0 where
   pub moments : List ℤ
-  pub asked : TicksInTurn before moments after
-  pub each : length moments ≡ length (filter is_asked lines)
-  pub tells : Tells (outcome_of lines moments) report
+  pub in_turn : TicksInTurn before moments after
+  pub each : length moments ≡ length (filter is_event_line lines)
+  pub tells : Tells (results_of lines moments) report
 
--- The world after what was read, and how many lines more are skipped.
+-- The world after what was read.
 abbrev pub world_with : World → ℤ → Read → World
 world_with w at (a_change event) = apply w (record { event = event; at = at })
 world_with w at is_skipped = w
 
+-- How many lines more are skipped.
 abbrev pub skips : Read → ℕ
 skips (a_change event) = 0
 skips is_skipped = 1

@@ -6,7 +6,7 @@ use Rattle.gw_text.specs.model.World.{world_of}
 use Rattle.gw_text.specs.model.Statuses.{statuses_of}
 use Rattle.gw_status.specs.StatusText.{statuses_text}
 use Rattle.gateward.specs.Lines.{lines_of}
-use Rattle.gateward.specs.Outcomes.{Refused, Outcome, outcome_of}
+use Rattle.gateward.specs.EventLines.{Refused, LineResults, results_of}
 use Rattle.gateward.specs.Starts.{Setting}
 
 -- How a refused line is printed, with the path of the field that it names.
@@ -18,29 +18,32 @@ refused_object line refusal (Some path) =
     (member (codes "path") (string path)
     (member (codes "refusal") (number (unsigned refusal)) no_members)))
 
+-- A refused line as JSON.
 abbrev pub refused_data : Refused → Data
 refused_data r = refused_object r.line r.refusal r.path
 
+-- The lines of the refused lines, in input order.
 abbrev pub refused_text : List Refused → List ℕ
 refused_text refused = flat_map (λ r. line_of (refused_data r)) refused
 
--- The last line.
+-- The last line: how many changes were taken, and how many lines were refused and skipped.
 abbrev pub summary_data : ℕ → ℕ → ℕ → Data
 summary_data changes refused skipped =
     object (member (codes "changes") (number (unsigned changes))
     (member (codes "refused") (number (unsigned refused))
     (member (codes "skipped") (number (unsigned skipped)) no_members)))
 
--- The whole text of an outcome: the refused lines in input order, the statuses of the world of its changes, the summary.
-unfoldable pub outcome_text : Setting → Outcome → List ℕ
-outcome_text setting o =
-    refused_text o.refused
-    ++ statuses_text (statuses_of setting.doors setting.controller (world_of o.changes))
-    ++ line_of (summary_data (length o.changes) (length o.refused) o.skipped)
+-- The whole text of what came of the lines: the refused lines in input order, the statuses of the world of its changes, the summary.
+unfoldable pub results_text : Setting → LineResults → List ℕ
+results_text setting r =
+    refused_text r.refused
+    ++ statuses_text (statuses_of setting.doors setting.controller (world_of r.changes))
+    ++ line_of (summary_data (length r.changes) (length r.refused) r.skipped)
 
-abbrev pub status_text : Setting → List ℕ → List ℤ → List ℕ
-status_text setting input moments = outcome_text setting (outcome_of (lines_of input) moments)
+-- The whole text of an input, read with these moments.
+abbrev pub run_text : Setting → List ℕ → List ℤ → List ℕ
+run_text setting input moments = results_text setting (results_of (lines_of input) moments)
 
 -- Some line is refused.
 abbrev pub has_refused : List ℕ → List ℤ → Bool
-has_refused input moments = nat_lt 0 (length (outcome_of (lines_of input) moments).refused)
+has_refused input moments = nat_lt 0 (length (results_of (lines_of input) moments).refused)

@@ -1,14 +1,13 @@
-//! The statuses of a world, evaluated from all the objects that are held.
-ghost use Rattle.std.specs.Prelude.{◌≡◌, IfOk, map};
-ghost use Rattle.gw_listener.specs.Seen.{seen_state};
-ghost use Rattle.gw_status.specs.Seen.{seen_condition};
+//! The statuses of a world, evaluated from all its objects.
+ghost use Rattle.std.specs.Prelude.{◌≡◌, ℕ, List, IfOk, map, zip};
 ghost use Rattle.gw_text.specs.model.Statuses as statuses;
+ghost use Rattle.gw_text.specs.model.World.{World as PlainWorld};
 
 use crate::start::Setting;
-use gw_listener::{ListenerState, gateway_state, listener_states};
+use gw_listener::{gateway_state, listener_states};
 use gw_objects::{Gateway, GatewayClass, Listener};
 use gw_status::{
-    ClassStatus, ClassStatuses, CondKind, Condition, GatewayStatus, GatewayStatuses,
+    ClassStatus, ClassStatuses, CondKind, Condition, GatewayStatus, GatewayStatuses, ListenerState,
     ListenerStatus, ListenerStatuses, Reason, Statuses,
 };
 use gw_store::World;
@@ -16,24 +15,24 @@ use gw_text::{Doors, Key, NoMemory, Text};
 use std::alloc::Global;
 
 fn is_ours(controller: &Text, class: &GatewayClass) -> bool
-    ensures { result ≡ statuses.is_ours controller.now class.now.object }
+    ensures { result ≡ statuses.is_ours controller.now class.now }
 {
-    class.controller_name.bytes() == controller.bytes()
+    class.controller_name == *controller
 }
 
-#[tactic(auto, unfolding(gw_status::specs::Seen::seen_reason))]
+#[tactic(auto, unfolding(gw_text::specs::model::Statuses::class_accepted_of))]
 fn class_accepted(class: &GatewayClass) -> Condition
-    ensures { seen_condition result ≡ statuses.class_accepted_of class.now.object }
+    ensures { result ≡ statuses.class_accepted_of class.now }
 {
     if class.parameters_ref {
-        Condition::no(CondKind::Accepted, Reason::InvalidParameters)
+        Condition::false_by(CondKind::Accepted, Reason::InvalidParameters)
     } else {
-        Condition::yes(CondKind::Accepted, Reason::Accepted)
+        Condition::true_by(CondKind::Accepted, Reason::Accepted)
     }
 }
 
 fn class_status(alloc: Global, class: &GatewayClass) -> Result<ClassStatus, NoMemory>
-    ensures { IfOk result (λ status. status ≡ statuses.class_status_of class.now.object) }
+    ensures { IfOk result (λ status. status ≡ statuses.class_status_of class.now) }
 {
     Ok(ClassStatus {
         key: class.meta.key.copy(alloc)?,
@@ -58,7 +57,14 @@ fn class_statuses(
     Ok(all)
 }
 
-// Whether the Gateway's class is held, is this controller's, and is accepted.
+// Whether the Gateways of the class are managed.
+fn manages(controller: &Text, class: &GatewayClass) -> bool
+    ensures { result ≡ statuses.manages controller.now class.now }
+{
+    is_ours(controller, class) && class_accepted(class).truth
+}
+
+// Whether the Gateway's class is in the world, and its Gateways are managed.
 #[tactic(auto, unfolding(gw_text::specs::model::Statuses::is_managed))]
 fn is_managed(
     alloc: Global,
@@ -66,14 +72,11 @@ fn is_managed(
     world: &World,
     gateway: &Gateway,
 ) -> Result<bool, NoMemory>
-    ensures { IfOk result (λ managed. managed ≡ statuses.is_managed controller.now world.now.world gateway.now.object) }
+    ensures { IfOk result (λ managed. managed ≡ statuses.is_managed controller.now world.now.world gateway.now) }
 {
-    let key = Key {
-        namespace: Text::of(alloc, "")?,
-        name: gateway.gateway_class_name.copy(alloc)?,
-    };
-    match world.class(&key) {
-        Some(class) => Ok(is_ours(controller, class) && !class.parameters_ref),
+    let name = gateway.gateway_class_name.copy(alloc)?;
+    match world.class(&Key::of_cluster(alloc, name)) {
+        Some(class) => Ok(manages(controller, class)),
         None => Ok(false),
     }
 }
@@ -83,15 +86,11 @@ fn listener_status(
     listener: &Listener,
     state: &ListenerState,
 ) -> Result<ListenerStatus, NoMemory>
-    ensures { IfOk result (λ status. status ≡ statuses.listener_status_of (listener.now, seen_state state.now)) }
+    ensures { IfOk result (λ status. status ≡ statuses.listener_status_of (listener.now, state.now)) }
 {
     Ok(ListenerStatus {
         name: listener.name.copy(alloc)?,
-        accepted: state.accepted,
-        conflicted: state.conflicted,
-        programmed: state.programmed,
-        resolved: state.resolved,
-        http: state.http,
+        state: *state,
     })
 }
 
@@ -100,7 +99,7 @@ fn listener_statuses(
     listeners: &[Listener],
     states: &[ListenerState],
 ) -> Result<ListenerStatuses, NoMemory>
-    ensures { IfOk result (λ all. all ≡ statuses.listener_statuses_of listeners.now (map seen_state states.now)) }
+    ensures { IfOk result (λ all. all ≡ map statuses.listener_status_of (zip listeners.now states.now)) }
 {
     let mut all = ListenerStatuses::new(alloc);
     'listeners: for (listener, state) in listeners.iter().zip(states) {
@@ -109,21 +108,20 @@ fn listener_statuses(
     Ok(all)
 }
 
-#[tactic(auto, unfolding(gw_text::specs::model::Statuses::gateway_status_of))]
+// No condition of a Gateway depends on other objects of the world.
+#[tactic(auto, unfolding(gw_text::specs::model::Statuses::gateway_status_of, gw_text::specs::model::Statuses::listener_statuses_of))]
 fn gateway_status(
     alloc: Global,
     doors: &Doors,
     gateway: &Gateway,
 ) -> Result<GatewayStatus, NoMemory>
-    ensures { IfOk result (λ status. status ≡ statuses.gateway_status_of doors.now gateway.now.object) }
+    ensures { IfOk result (λ status. (controller : List ℕ) (world : PlainWorld) →
+        status ≡ statuses.gateway_status_of doors.now controller world gateway.now) }
 {
     let states = listener_states(alloc, gateway, doors)?;
-    let state = gateway_state(gateway, doors, &states);
     Ok(GatewayStatus {
         key: gateway.meta.key.copy(alloc)?,
-        accepted: state.accepted,
-        programmed: state.programmed,
-        address: state.address,
+        state: gateway_state(gateway, doors, &states),
         listeners: listener_statuses(alloc, gateway.listeners.as_slice(), states.as_slice())?,
     })
 }
@@ -145,7 +143,7 @@ fn gateway_statuses(
     Ok(all)
 }
 
-/// The statuses of the objects that are held.
+/// The statuses of a world.
 pub fn statuses(alloc: Global, setting: &Setting, world: &World) -> Result<Statuses, NoMemory>
     ensures { IfOk result (λ all. all ≡ statuses.statuses_of setting.now.doors setting.now.controller world.now.world) }
 {

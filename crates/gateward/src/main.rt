@@ -3,6 +3,7 @@
 #![tactic(auto)]
 
 mod evaluate;
+mod fault;
 mod lines;
 mod outside;
 mod print;
@@ -12,6 +13,7 @@ mod start;
 mod status;
 mod words;
 
+use fault::Fault;
 use outside::{StdSink, StdSource, WallClock};
 use std::alloc::AllocError;
 use std::io::ErrorKind;
@@ -37,7 +39,7 @@ fn given_words(rt: &(impl Env + AllocGlobal)) -> Result<Vec<String>, AllocError>
 fn main(rt: HostRuntime) -> ExitCode {
     let alloc = rt.alloc();
     let Ok(words) = given_words(&rt) else {
-        return ExitCode::from(6);
+        return ExitCode::from(Fault::NoMemory.ending().exit_code);
     };
     let mut source = StdSource::new(rt.stdin());
     let mut sink = StdSink::new(io::writer(&rt));

@@ -1,11 +1,18 @@
-ghost use Rattle.std.specs.Prelude.{◌≡◌, None, pos};
+//! The real outside: a reader, a writer and the system's clock.
+ghost use Rattle.std.specs.Prelude.{◌≡◌, ◌<◌, None, pos, length};
+ghost use Rattle.std.specs.Io.{ReadsAtMost, WritesAtMost};
+ghost use Rattle.std.specs.Io.KnownBytes.{ReadConsumes, WriteAppends};
 
 use gw_link::{Clock, Failed, Sink, Source};
 use gw_text::Second;
-use std::io::{Read, Write};
+use std::io;
+use std::io::{ErrorKind, Read, Write};
 use std::time::{SystemTime, UNIX_EPOCH};
 
-/// A real source, as standard input. It counts what it gives, and tells nothing of it.
+// How often an interrupted call is tried.
+const MOST_TRIES: u64 = u64::MAX;
+
+/// A source over a reader, as standard input. It counts what it gives, and tells what its reader tells.
 #[derive(Drop)]
 pub struct StdSource<R: Read + Drop> {
     reader: R,
@@ -27,16 +34,17 @@ impl<R: Read + Drop> StdSource<R> {
 }
 
 impl<R: Read + Drop> Source for StdSource<R> {
-    ghost left = { λ _. None };
+    ghost left = { λ s. R.remaining s.reader };
 
     ghost given = { λ s. s.given };
 
     ghost faults = { λ s. s.faults };
 
     fn read(&mut self, buf: &mut [u8]) -> Result<usize, Failed> {
-        if let Ok(taken) = self.reader.read(buf) {
-            if let Some(given) = self.given.checked_add(taken as u64) {
-                self.given = given;
+        // What couldn't be counted isn't read.
+        if u64::MAX - self.given >= buf.len() as u64 {
+            if let Ok(taken) = read_piece(&mut self.reader, buf) {
+                self.given += taken as u64;
                 return Ok(taken);
             }
         }
@@ -45,7 +53,21 @@ impl<R: Read + Drop> Source for StdSource<R> {
     }
 }
 
-/// A real sink, as standard output. It tells nothing of what it wrote.
+// One read, tried again where a signal interrupts it.
+fn read_piece<R: Read>(reader: &mut R, buf: &mut [u8]) -> io::Result<usize>
+    ensures bound { ReadsAtMost result buf.new }
+    ensures bytes { ReadConsumes (R.remaining reader.old) (R.remaining reader.new) result buf.new }
+{
+    'tries: for _ in 0..MOST_TRIES {
+        match reader.read(buf) {
+            Err(error) if error.kind() == ErrorKind::Interrupted => {}
+            answer => return answer,
+        }
+    }
+    Err(io::Error::from(ErrorKind::TimedOut))
+}
+
+/// A sink over a writer, as standard output. It tells what its writer tells.
 #[derive(Drop)]
 pub struct StdSink<W: Write + Drop> {
     writer: W,
@@ -62,19 +84,33 @@ impl<W: Write + Drop> StdSink<W> {
 }
 
 impl<W: Write + Drop> Sink for StdSink<W> {
-    ghost written = { λ _. None };
+    ghost written = { λ s. W.contents s.writer };
 
     ghost faults = { λ s. s.faults };
 
     fn write(&mut self, piece: &[u8]) -> Result<usize, Failed> {
-        if let Ok(taken) = self.writer.write(piece) {
-            if taken > 0 {
-                return Ok(taken);
+        match write_piece(&mut self.writer, piece) {
+            Ok(taken) if taken > 0 => Ok(taken),
+            _ => {
+                self.faults = self.faults.saturating_add(1);
+                Err(Failed)
             }
         }
-        self.faults = self.faults.saturating_add(1);
-        Err(Failed)
     }
+}
+
+// One write, tried again where a signal interrupts it.
+fn write_piece<W: Write>(writer: &mut W, piece: &[u8]) -> io::Result<usize>
+    ensures bound { WritesAtMost result piece.now }
+    ensures bytes { WriteAppends (W.contents writer.old) (W.contents writer.new) result piece.now }
+{
+    'tries: for _ in 0..MOST_TRIES {
+        match writer.write(piece) {
+            Err(error) if error.kind() == ErrorKind::Interrupted => {}
+            answer => return answer,
+        }
+    }
+    Err(io::Error::from(ErrorKind::TimedOut))
 }
 
 /// The system's clock, in whole seconds. Where it can't be read it gives its last moment again, at first 0.

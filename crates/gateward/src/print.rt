@@ -1,6 +1,6 @@
 ghost use Rattle.std.specs.Prelude.{◌≡◌, IfOk};
 ghost use Rattle.serde_json.specs.View.{view};
-ghost use Rattle.gateward.specs.Outcomes.{refused_by};
+ghost use Rattle.gateward.specs.EventLines.{refused_by};
 ghost use Rattle.gateward.specs.RunText.{refused_data, summary_data};
 
 use gw_json::Refusal;

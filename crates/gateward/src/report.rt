@@ -15,7 +15,7 @@ use gw_store::{Event, Read, World, read_event};
 use gw_text::{NoMemory, Second};
 use std::alloc::Global;
 
-/// What stands after the lines that were answered so far.
+/// What stands after the lines that were read so far.
 #[derive(Drop)]
 pub struct Report {
     pub world: World,
@@ -47,7 +47,7 @@ pub fn apply_lines<C: Clock>(alloc: Global, input: &[u8], clock: &mut C) -> Resu
     Ok(report)
 }
 
-// The clock is asked before the line is read, and not for a blank one.
+// The clock is read before the line is, and not for a blank one.
 fn apply_line<C: Clock>(
     alloc: Global,
     report: &mut Report,

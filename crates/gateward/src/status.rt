@@ -4,7 +4,7 @@ ghost use Rattle.gw_text.specs.model.Statuses.{statuses_of};
 ghost use Rattle.gw_link.specs.declared.source.TheConstants.{MOST_INPUT};
 ghost use Rattle.gw_json.specs.Lines.{line_of};
 ghost use Rattle.gateward.specs.RunText.{summary_data};
-ghost use Rattle.gateward.specs.Statuses.{IsStatusText};
+ghost use Rattle.gateward.specs.Outputs.{IsOutput};
 
 use crate::evaluate::statuses;
 use crate::print::summary_value;
@@ -16,9 +16,10 @@ use gw_status::write_statuses;
 use gw_text::{NoMemory, Text};
 use std::alloc::Global;
 
-/// What `status` prints for an input.
+/// What `status` gives for an input.
 #[derive(Drop)]
-pub struct StatusText {
+pub struct Output {
+    /// What it prints.
     pub text: Text,
     /// Whether a line was refused.
     pub refused: bool,
@@ -30,14 +31,14 @@ pub fn status<C: Clock>(
     setting: &Setting,
     input: &[u8],
     clock: &mut C,
-) -> Result<StatusText, NoMemory>
+) -> Result<Output, NoMemory>
     requires { length input.now ≤ MOST_INPUT }
-    ensures { IfOk result (IsStatusText setting.now input.now (C.moments clock.old)) }
+    ensures { IfOk result (IsOutput setting.now input.now (C.moments clock.old)) }
 {
     let report = apply_lines(alloc, input, clock)?;
     let refused = report.refused > 0;
     let text = report_text(alloc, setting, report)?;
-    Ok(StatusText { text, refused })
+    Ok(Output { text, refused })
 }
 
 // The refused lines, the statuses, the summary.

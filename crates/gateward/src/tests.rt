@@ -4,6 +4,7 @@ use gw_link::{MemClock, MemSink, MemSource};
 use std::alloc::{AllocError, Global};
 use std::test::*;
 
+mod edge;
 mod faults;
 mod limits;
 mod runs;
@@ -17,10 +18,10 @@ const GATEWAY: &str =
 const ROUTE: &str =
     r#"{"type":"ADDED","object":{"apiVersion":"gateway.networking.k8s.io/v1","kind":"HTTPRoute","metadata":{"name":"r"},"spec":{"parentRefs":[{"name":"g"}],"rules":[{"backendRefs":[{"name":"s","port":80}]}]}}}"#;
 
-// What a run left: its status, what it wrote, and what it left of its input.
+// What a run left: its exit code, what it wrote, and what it left of its input.
 #[derive(Drop)]
 struct Ran {
-    status: u8,
+    exit_code: u8,
     sink: MemSink,
     source: MemSource,
 }
@@ -43,9 +44,9 @@ fn run_over(
 ) -> Result<Ran, AllocError> {
     let clock = MemClock::new(Vec::new(alloc));
     let words = words(alloc, text)?;
-    let status = run(alloc, words.as_slice(), &mut source, &mut sink, clock);
+    let exit_code = run(alloc, words.as_slice(), &mut source, &mut sink, clock);
     Ok(Ran {
-        status,
+        exit_code,
         sink,
         source,
     })

@@ -25,9 +25,9 @@ pub enum UsageFault {
 }
 
 impl From<AllocError> for UsageFault {
-    ghost use Rattle.gateward.specs.declared.words.UsageFault.TheVariants.{NoMemory as Starved};
+    ghost use Rattle.gateward.specs.declared.words.UsageFault.TheVariants.{NoMemory as OutOfMemory};
 
-    ghost from_gives = { λ _ e. e ≡ Starved };
+    ghost from_gives = { λ _ e. e ≡ OutOfMemory };
 
     fn from(_error: AllocError) -> UsageFault {
         UsageFault::NoMemory
@@ -35,9 +35,9 @@ impl From<AllocError> for UsageFault {
 }
 
 impl<T: Drop> From<AllocFailed<T>> for UsageFault {
-    ghost use Rattle.gateward.specs.declared.words.UsageFault.TheVariants.{NoMemory as Starved};
+    ghost use Rattle.gateward.specs.declared.words.UsageFault.TheVariants.{NoMemory as OutOfMemory};
 
-    ghost from_gives = { λ _ e. e ≡ Starved };
+    ghost from_gives = { λ _ e. e ≡ OutOfMemory };
 
     fn from(_error: AllocFailed<T>) -> UsageFault {
         UsageFault::NoMemory

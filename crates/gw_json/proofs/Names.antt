@@ -6,7 +6,7 @@ use Rattle.std.specs.List.Sorted.{IsStrictlySortedBy}
 use Rattle.std.specs.Map.{keys_of}
 use Rattle.serde_json.specs.View.{members_view}
 use Rattle.serde_json.specs.declared.value.Value.{Value}
-use Rattle.gw_json.specs.Fields.{Place, named_from, IsInByteOrder}
+use Rattle.gw_json.specs.Fields.{Node, named_from, IsInByteOrder}
 
 below_all : (k : String Global) (path : List ℕ) (es : List (String Global × Value)) → AllByRecursion (λ y. string_cmp k y ≡ Less) (keys_of es)
     → AllByRecursion (λ y. slice_cmp nat_cmp (string_bytes k) y ≡ Less) (keys_of (named_from path (members_view es)))
@@ -18,6 +18,6 @@ unfolding IsStrictlySortedBy
 named_ascend path [] ascend = tt
 named_ascend path (e ∷ es) ascend = (below_all e.0 path es ascend.0, named_ascend path es ascend.1)
 
-pub names_ascend : (members : List (List ℕ × Place)) (path : List ℕ) (es : List (String Global × Value)) → members ≡ named_from path (members_view es)
+pub names_ascend : (members : List (List ℕ × Node)) (path : List ℕ) (es : List (String Global × Value)) → members ≡ named_from path (members_view es)
     → IsStrictlySortedBy string_cmp (keys_of es) → IsInByteOrder members
 names_ascend members path es is ascend = rw is (named_ascend path es ascend)

@@ -4,5 +4,5 @@ pub mod Members
 pub mod Paths
 pub mod PathTexts
 pub mod Refusals
-pub mod Rows
+pub mod Presence
 pub mod Words

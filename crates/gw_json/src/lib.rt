@@ -4,18 +4,16 @@
 #![tactic(auto)]
 
 mod cursor;
-mod items;
+mod form;
 mod line;
 mod member;
 mod path;
+mod presence;
 mod refusal;
-mod rows;
-#[cfg(test)]
-mod tests;
 
 pub use cursor::Cursor;
-pub use items::{Item, each_item};
+pub use form::{Form, Number16, Number32, Number64, Port, TextForm, Truth};
 pub use line::{MAX_LINE, push_line, read_value};
-pub use member::{Member, Place};
+pub use member::{Member, Node};
 pub use path::Path;
 pub use refusal::Refusal;

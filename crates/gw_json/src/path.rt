@@ -1,4 +1,4 @@
-//! The places of fields.
+//! The nodes of fields.
 ghost use Rattle.std.specs.Prelude.{◌≡◌, ◌↔◌, ◌++◌, [], IsTrue, IfOk, OnOk, string_bytes};
 ghost use Rattle.gw_json.specs.Paths.{member_path, item_path};
 ghost use Rattle.gw_json.specs.PathTexts.{path_bytes};

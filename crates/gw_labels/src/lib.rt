@@ -3,8 +3,6 @@
 
 mod labels;
 mod selector;
-#[cfg(test)]
-mod tests;
 
 pub use labels::Labels;
-pub use selector::{Op, Selector, accepts};
+pub use selector::{Op, Requirement, Selector, accepts};

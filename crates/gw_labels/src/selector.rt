@@ -1,4 +1,4 @@
-ghost use Rattle.std.specs.Prelude.{◌≡◌, [], ◌∷◌, ◌++◌, OnOk, OnErr, option_copied, bytes_eq, string_bytes, map};
+ghost use Rattle.std.specs.Prelude.{◌≡◌, [], ◌∷◌, ◌++◌, IfOk, OnOk, OnErr, option_copied, bytes_eq, string_bytes, map};
 ghost use Rattle.std.specs.List.{list_any};
 ghost use Rattle.std.specs.Map.{keys_of};
 ghost use Rattle.gw_labels.specs.Selectors.{is_among, meets, selects};
@@ -20,8 +20,9 @@ pub enum Op {
     DoesNotExist,
 }
 
+/// What is asked of one key of labels.
 #[derive(Drop)]
-struct Requirement {
+pub struct Requirement {
     key: String,
     op: Op,
     values: Vec<String>,
@@ -37,6 +38,15 @@ impl Model for Requirement {
 }
 
 impl Requirement {
+    /// What is asked of the key; the values are the keys of `values`.
+    pub fn new(alloc: Global, key: &str, op: Op, values: &Labels) -> Result<Requirement, AllocError>
+        ensures { IfOk result (λ r. r ≡ record { key = key.now; op = op; values = keys_of values.now }) }
+    {
+        let key = String::from_str(alloc, key)?;
+        let values = values.keys(alloc)?;
+        Ok(Requirement { key, op, values })
+    }
+
     fn is_met(&self, labels: &Labels) -> bool
         ensures { result ≡ meets labels.now self.now }
     {
@@ -65,7 +75,7 @@ fn contains(values: &[String], value: &str) -> bool
     values.iter().any(|other| value == other.as_str())
 }
 
-/// A list of requirements on labels, all of which must hold.
+/// A list of requirements on labels, all of which must hold. Without any it accepts all labels.
 #[derive(Drop)]
 pub struct Selector {
     alloc: Global,
@@ -97,10 +107,16 @@ impl Selector {
         ensures ok { OnOk result (self.new ≡ self.old ++ record { key = key.now; op = op; values = keys_of values.now } ∷ []) }
         ensures err { OnErr result (self.new ≡ self.old) }
     {
-        let key = String::from_str(self.alloc, key)?;
-        let values = values.keys(self.alloc)?;
-        self.needs.push(Requirement { key, op, values })?;
+        let need = Requirement::new(self.alloc, key, op, values)?;
+        self.needs.push(need)?;
         Ok(())
+    }
+
+    /// The selector of these requirements.
+    pub fn of(alloc: Global, needs: Vec<Requirement>) -> Selector
+        ensures { result ≡ needs.items }
+    {
+        Selector { alloc, needs }
     }
 }
 

@@ -1,5 +1,5 @@
 -- Pieces that follow one another, given or taken. Loops and calls above join theirs by these.
-use Rattle.std.proofs.Common.{◌≡◌, ℕ, ◌+◌, List, [], ◌++◌, length, take, Option, Some, None, refl, ap, sym, append_assoc, append-nil, arith, length-append}
+use Rattle.std.proofs.Common.{◌≡◌, ℕ, ◌+◌, List, [], ◌++◌, length, take, Option, Some, None, refl, ap, sym, append_assoc, append-nil, arith, length-append, ◌∙◌}
 use Rattle.std.proofs.Math.Seq.{take-append-add}
 use Rattle.std.proofs.lemmas.List.{take-append-le}
 use Rattle.gw_link.specs.Pieces.{Gives, GivesPart, Takes, TakesPart}
@@ -8,15 +8,19 @@ use Rattle.gw_link.specs.Pieces.{Gives, GivesPart, Takes, TakesPart}
 pub Gives-nothing :
     (left : Option (List ℕ)) →
     Gives left [] left
-Gives-nothing None = refl
+Gives-nothing None = tt
 Gives-nothing (Some rest) = refl
 
 -- Two pieces given one after the other are one piece.
 pub Gives-more :
     (before middle after : Option (List ℕ)) (first second : List ℕ) →
     Gives before first middle → Gives middle second after → Gives before (first ++ second) after
-Gives-more before middle None first second was is = rw (was, is) refl
-Gives-more before middle (Some rest) first second was is = rw (was, is) (ap Some (sym (append_assoc first second rest)))
+Gives-more None middle after first second was is = tt
+Gives-more (Some before) None after first second was is = absurd (cc was)
+Gives-more (Some before) (Some middle) None first second was is = absurd (cc is)
+Gives-more (Some before) (Some middle) (Some rest) first second was is =
+    let middle_is : middle ≡ second ++ rest = cc is in
+    was ∙ ap (λ t. Some (first ++ t)) middle_is ∙ ap Some (sym (append_assoc first second rest))
 
 -- The same with the counts of given bytes.
 pub GivesPart-more :
@@ -29,15 +33,18 @@ GivesPart-more before middle after given given' given'' first second was counted
 pub Takes-nothing :
     (written : Option (List ℕ)) →
     Takes written [] written
-Takes-nothing None = refl
+Takes-nothing None = tt
 Takes-nothing (Some written) = ap Some (sym (append-nil written))
 
 -- Two pieces taken one after the other are one piece.
 pub Takes-more :
     (before middle after : Option (List ℕ)) (first second : List ℕ) →
     Takes before first middle → Takes middle second after → Takes before (first ++ second) after
-Takes-more None middle after first second was is = rw (is, was) refl
-Takes-more (Some written) middle after first second was is = rw (is, was) (ap Some (append_assoc written first second))
+Takes-more None middle after first second was is = tt
+Takes-more (Some written) None after first second was is = absurd (cc was)
+Takes-more (Some written) (Some middle) after first second was is =
+    let middle_is : middle ≡ written ++ first = cc was in
+    is ∙ ap (λ t. Some (t ++ second)) middle_is ∙ ap Some (append_assoc written first second)
 
 -- A part of a piece is a part of a longer one.
 pub TakesPart-longer :

@@ -11,8 +11,6 @@ mod mem_source;
 mod plan;
 mod sink;
 mod source;
-#[cfg(test)]
-mod tests;
 
 pub use clock::Clock;
 pub use failed::Failed;

@@ -6,7 +6,7 @@ use crate::plan::Plan;
 use crate::source::Source;
 use std::marker::Model;
 
-/// A source that gives bytes from memory. It takes no memory itself.
+/// A source that gives bytes from memory.
 #[derive(Drop)]
 pub struct MemSource {
     bytes: Vec<u8>,

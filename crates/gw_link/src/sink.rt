@@ -1,6 +1,6 @@
 ghost use Rattle.std.specs.Prelude.{◌≡◌, ℕ, ◌<◌, ◌≤◌, List, [], Option, length, take, IfOk, OnOk, OnErr};
 ghost use Rattle.gw_link.specs.Faults.{Counts};
-ghost use Rattle.gw_link.specs.Pieces.{Takes, TakesPart};
+ghost use Rattle.gw_link.specs.Pieces.{Takes, TakesPart, Keeps};
 
 use crate::failed::Failed;
 
@@ -18,7 +18,7 @@ pub trait Sink {
         ensures some { IfOk result (λ n. 0 < n) }
         ensures within { IfOk result (λ n. n ≤ length piece.now) }
         ensures takes { IfOk result (λ n. Takes (written self.old) (take n piece.now) (written self.new)) }
-        ensures kept { OnErr result (written self.new ≡ written self.old) }
+        ensures kept { OnErr result (Keeps (written self.old) (written self.new)) }
         ensures counts { Counts (faults self.old) (faults self.new) result };
 }
 

@@ -1,6 +1,6 @@
 ghost use Rattle.std.specs.Prelude.{◌≡◌, ℕ, ◌+◌, ◌<◌, ◌≤◌, ◌↔◌, List, Option, length, take, vec_len, IfSome, IfOk, OnOk, OnErr};
 ghost use Rattle.gw_link.specs.Faults.{Counts, HasRisen};
-ghost use Rattle.gw_link.specs.Pieces.{Gives, GivesPart, IsAtEnd};
+ghost use Rattle.gw_link.specs.Pieces.{Gives, GivesPart, IsAtEnd, Keeps};
 
 use crate::failed::Failed;
 use gw_text::NoMemory;
@@ -30,7 +30,7 @@ pub trait Source {
         ensures gives { IfOk result (λ n. Gives (left self.old) (take n buf.new) (left self.new)) }
         ensures ends { result ≡ Ok 0 → IsAtEnd (left self.new) }
         ensures counted { IfOk result (λ n. given self.new ≡ given self.old + n) }
-        ensures kept { OnErr result ((left self.new ≡ left self.old) × (given self.new ≡ given self.old)) }
+        ensures kept { OnErr result (Keeps (left self.old) (left self.new) × (given self.new ≡ given self.old)) }
         ensures counts { Counts (faults self.old) (faults self.new) result };
 }
 
@@ -53,9 +53,9 @@ impl From<Failed> for ReadFault {
 }
 
 impl From<NoMemory> for ReadFault {
-    ghost use Rattle.gw_link.specs.declared.source.ReadFault.TheVariants.{NoMemory as Starved};
+    ghost use Rattle.gw_link.specs.declared.source.ReadFault.TheVariants.{NoMemory as OutOfMemory};
 
-    ghost from_gives = { λ _ fault. fault ≡ Starved };
+    ghost from_gives = { λ _ fault. fault ≡ OutOfMemory };
 
     fn from(_: NoMemory) -> Self {
         ReadFault::NoMemory

@@ -4,8 +4,7 @@
 mod address;
 mod gateway;
 mod listener;
-#[cfg(test)]
-mod tests;
 
-pub use gateway::{GatewayState, gateway_state};
-pub use listener::{ListenerState, ListenerStates, listener_states};
+pub use gateway::gateway_state;
+pub use gw_status::{GatewayState, ListenerState};
+pub use listener::{ListenerStates, listener_states};

@@ -1,12 +1,10 @@
 pub mod Classes
-pub mod Forms
 pub mod Gateways
 pub mod Grants
 pub mod Labels
 pub mod Metadata
 pub mod Namespaces
-pub mod Seen
-pub mod SeenFrom
 pub mod Selectors
 pub mod Services
 pub mod Slices
+pub mod Seen

@@ -1,86 +1,59 @@
--- The selector of a listener, row by row. Source: LabelSelector of the Kubernetes API.
+-- The selector of a listener, field by field. Source: LabelSelector of the Kubernetes API.
 use Rattle.std.specs.Prelude.{ℕ, List, [], ◌∷◌, ◌++◌, codes, bytes_eq, fold, if◌then◌else◌, Option, Some, None, Result, Ok}
 use Rattle.std.specs.Map.{keys_of}
 use Rattle.gw_json.specs.declared.refusal.Refusal.{Refusal}
-use Rattle.gw_json.specs.declared.refusal.Refusal.TheVariants.{BadValue}
-use Rattle.gw_json.specs.Words.{◌>>=◌, or, each}
-use Rattle.gw_json.specs.Fields.{Place, text_of, members_of}
+use Rattle.gw_json.specs.Words.{◌>>=◌, each}
+use Rattle.gw_json.specs.Fields.{Node, members_of, items_of}
+use Rattle.gw_json.specs.Presence.{needed, defaulted, listed, parsed, any_length}
 use Rattle.gw_labels.specs.Labels.{put}
-use Rattle.gw_text.specs.model.Selectors.{Op, is_in, is_not_in, key_exists, key_does_not_exist, Requirement}
-use Rattle.gw_json.specs.Rows.{needed, defaulted, listed, any_length}
-use Rattle.gw_objects.specs.Forms.{word_of}
+use Rattle.gw_labels.specs.declared.selector.Op.{Op}
+use Rattle.gw_labels.specs.declared.selector.Op.TheVariants.{In, NotIn, Exists, DoesNotExist}
+use Rattle.gw_labels.specs.Selectors.{Requirement}
+use Rattle.gw_objects.specs.declared.fields.TheConstants.{MATCH_LABELS, MATCH_EXPRESSIONS}
+use Rattle.gw_forms.specs.Forms as forms
 
--- A member of matchLabels asks for its key with its one value.
-unfoldable pub asked_of : List ℕ × Place → Result Requirement Refusal
-asked_of member = do
-  value ← word_of member.1
-  Ok (record { key = member.0; op = is_in; values = value ∷ [] })
+-- A member of matchLabels requires its one value of its key.
+unfoldable pub label_requirement_of : List ℕ × Node → Result Requirement Refusal
+label_requirement_of member = do
+  value ← forms.word member.1
+  Ok (record { key = member.0; op = In; values = value ∷ [] })
 
--- What was asked before, and then what is read.
-abbrev pub also : List Requirement → Result Requirement Refusal → Result (List Requirement) Refusal
-also before read = read >>= λ r. Ok (before ++ r ∷ [])
+-- The members of matchLabels, in the byte order of their names.
+unfoldable pub match_labels_of : Node → Result (List Requirement) Refusal
+match_labels_of at = do
+  members ← members_of at
+  each label_requirement_of members
 
 -- The operator of that name.
 unfoldable pub named_op : List ℕ → Option Op
 named_op t =
-    if bytes_eq t (codes "In") then Some is_in
-    else (if bytes_eq t (codes "NotIn") then Some is_not_in
-    else (if bytes_eq t (codes "Exists") then Some key_exists
-    else (if bytes_eq t (codes "DoesNotExist") then Some key_does_not_exist
+    if bytes_eq t (codes "In") then Some In
+    else (if bytes_eq t (codes "NotIn") then Some NotIn
+    else (if bytes_eq t (codes "Exists") then Some Exists
+    else (if bytes_eq t (codes "DoesNotExist") then Some DoesNotExist
     else None)))
-
--- A text that is the name of an operator.
-unfoldable pub op_of : Place → Result Op Refusal
-op_of at = do
-  text ← text_of any_length at
-  or (BadValue at.path) (named_op text)
 
 -- The set of the texts that were read, with those of a set before: the keys of a map.
 abbrev pub gathered_on : List (List ℕ × List ℕ) → Result (List (List ℕ)) Refusal → Result (List (List ℕ × List ℕ)) Refusal
 gathered_on before read = read >>= λ texts. Ok (fold (λ set text. put text [] set) before texts)
 
--- The set of the texts that were read.
-abbrev pub gathered : Result (List (List ℕ)) Refusal → Result (List (List ℕ × List ℕ)) Refusal
-gathered = gathered_on []
-
--- The values are a set: each once, in byte order.
-unfoldable pub values_of : Place → Result (List (List ℕ)) Refusal
+-- The values are a set of at most 64 words, as the keys of a map: each once, in byte order.
+unfoldable pub values_of : Node → Result (List (List ℕ × List ℕ)) Refusal
 values_of at = do
-  places ← listed 64 (codes "values") at
-  set ← gathered (each word_of places)
-  Ok (keys_of set)
+  nodes ← items_of 64 at
+  gathered_on [] (each forms.word nodes)
 
 -- The fields of an item of matchExpressions, in the order in which they are read: LabelSelectorRequirement.
-unfoldable pub expression_of : Place → Result Requirement Refusal
+unfoldable pub expression_of : Node → Result Requirement Refusal
 expression_of at = do
-  key ← needed word_of (codes "key") at
-  op ← needed op_of (codes "operator") at
-  values ← values_of at
-  Ok (record { key = key; op = op; values = values })
+  key ← needed forms.word (codes "key") at
+  op ← needed (parsed any_length named_op) (codes "operator") at
+  values ← defaulted [] values_of (codes "values") at
+  Ok (record { key = key; op = op; values = keys_of values })
 
--- matchLabels, an object of words.
-unfoldable pub label_members_of : Place → Result (List (List ℕ × Place)) Refusal
-label_members_of at = defaulted [] members_of (codes "matchLabels") at
-
--- What matchLabels asks, in the byte order of its keys.
-unfoldable pub match_labels_of : Place → Result (List Requirement) Refusal
-match_labels_of at = do
-  members ← label_members_of at
-  each asked_of members
-
--- matchExpressions, at most 64 items.
-unfoldable pub expression_places_of : Place → Result (List Place) Refusal
-expression_places_of at = listed 64 (codes "matchExpressions") at
-
--- What matchExpressions asks, in list order.
-unfoldable pub match_expressions_of : Place → Result (List Requirement) Refusal
-match_expressions_of at = do
-  places ← expression_places_of at
-  each expression_of places
-
--- All that a selector asks: matchLabels in byte order, then matchExpressions.
-unfoldable pub selector_of : Place → Result (List Requirement) Refusal
+-- The requirements of a selector: those of matchLabels, then those of matchExpressions.
+unfoldable pub selector_of : Node → Result (List Requirement) Refusal
 selector_of at = do
-  labels ← match_labels_of at
-  expressions ← match_expressions_of at
+  labels ← defaulted [] match_labels_of MATCH_LABELS.now at
+  expressions ← listed 64 expression_of MATCH_EXPRESSIONS.now at
   Ok (labels ++ expressions)

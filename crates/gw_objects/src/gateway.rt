@@ -1,12 +1,13 @@
 ghost use Rattle.std.specs.Prelude.{◌≡◌, [], map};
 ghost use Rattle.gw_json.specs.Words.{Gives};
-ghost use Rattle.gw_json.specs.Fields.{place_of};
+ghost use Rattle.gw_json.specs.Fields.{node_of};
 ghost use Rattle.gw_objects.specs.Gateways as gateways;
 
-use crate::fields::{name, need_name, need_word, some_hostname, some_word, word_or};
-use crate::routes::{AllowedRoutes, read_routes};
-use gw_json::{Cursor, Item, Refusal, each_item};
-use gw_text::{Held, Host, Meta, Text};
+use crate::fields::{ALLOWED_ROUTES, GATEWAY_CLASS_NAME};
+use crate::routes::{AllowedRoutes, AllowedRoutesForm};
+use gw_forms as forms;
+use gw_json::{Cursor, Form, Port, Refusal};
+use gw_text::{AddressType, FromNamespaces, Host, Meta, Name, Protocol, Text};
 use std::alloc::Global;
 use std::marker::Model;
 
@@ -14,10 +15,10 @@ use std::marker::Model;
 #[derive(Drop)]
 pub struct Listener {
     /// It differs from the names of the Gateway's other listeners.
-    pub name: Text,
+    pub name: Name,
     pub hostname: Option<Host>,
     pub port: u16,
-    pub protocol: Text,
+    pub protocol: Protocol,
     pub allowed_routes: AllowedRoutes,
 }
 
@@ -32,8 +33,8 @@ impl Model for Listener {
 /// An address that a Gateway asks for.
 #[derive(Drop)]
 pub struct Address {
-    /// Its type, as `IPAddress`.
-    pub sort: Text,
+    /// Its type.
+    pub sort: AddressType,
     pub value: Option<Text>,
 }
 
@@ -45,38 +46,43 @@ impl Model for Address {
     ghost view = { λ a. record { sort = a.sort; value = a.value } };
 }
 
-impl Item for Address {
-    ghost of = { gateways.address_of };
+/// An item of spec.addresses.
+#[derive(Clone, Copy)]
+struct AddressForm;
+
+impl Form for AddressForm {
+    type Value = Address;
+
+    ghost seen = { λ value. value };
+
+    ghost of = { λ _. gateways.address_of };
 
     #[tactic(auto, unfolding(crate::specs::Gateways::address_of))]
-    fn read(alloc: Global, at: &Cursor<'_>) -> Result<Address, Refusal> {
-        let sort = word_or(alloc, "IPAddress", "type", at)?;
-        let value = some_word(alloc, "value", at)?;
+    fn read(&self, alloc: Global, at: &Cursor<'_>) -> Result<Address, Refusal> {
+        let sort = at.defaulted(alloc, "type", forms::AddressType, AddressType::IpAddress)?;
+        let value = at.given(alloc, "value", forms::Word)?;
         Ok(Address { sort, value })
     }
 }
 
-/// The fields of a Gateway.
+/// A Gateway.
 #[derive(Drop)]
-pub struct GatewayFields {
+pub struct Gateway {
     pub meta: Meta,
     /// The name of its GatewayClass.
-    pub gateway_class_name: Text,
+    pub gateway_class_name: Name,
     /// One or more.
     pub listeners: Vec<Listener>,
     pub addresses: Vec<Address>,
 }
 
-impl Model for GatewayFields {
+impl Model for Gateway {
     ghost use Rattle.gw_text.specs.model.Gateways.{Gateway as Plain};
 
     ghost Value = { Plain };
 
     ghost view = { λ g. record { meta = g.meta; gateway_class_name = g.gateway_class_name; listeners = g.listeners.items; addresses = g.addresses.items } };
 }
-
-/// A Gateway, one pointer wide.
-pub type Gateway = Held<GatewayFields>;
 
 #[tactic(auto, unfolding(crate::specs::Gateways::is_among))]
 fn is_among(name: &[u8], listeners: &[Listener]) -> bool
@@ -85,33 +91,49 @@ fn is_among(name: &[u8], listeners: &[Listener]) -> bool
     listeners.iter().any(|other| other.name.bytes() == name)
 }
 
-#[tactic(auto, unfolding(crate::specs::Gateways::own_name_of))]
-fn own_name(alloc: Global, earlier: &[Listener], at: &Cursor<'_>) -> Result<Text, Refusal>
-    ensures { Gives (λ name. name) result (gateways.own_name_of earlier.now (place_of at.now)) }
-{
-    let name = name(alloc, at)?;
-    if is_among(name.bytes(), earlier) {
-        return Err(at.bad_value(alloc)?);
-    }
-    Ok(name)
+/// The name of a listener, which none of the earlier ones has.
+#[derive(Clone, Copy)]
+struct OwnName<'l> {
+    earlier: &'l [Listener],
 }
 
-#[tactic(auto, unfolding(crate::specs::Gateways::name_field_of, gw_json::specs::Rows::needed))]
-fn name_field(alloc: Global, earlier: &[Listener], at: &Cursor<'_>) -> Result<Text, Refusal>
-    ensures { Gives (λ name. name) result (gateways.name_field_of earlier.now (place_of at.now)) }
+impl<'l> Form for OwnName<'l> {
+    type Value = Name;
+
+    ghost seen = { λ value. value };
+
+    ghost of = { λ form. gateways.own_name_of form.earlier.now };
+
+    #[tactic(auto, unfolding(crate::specs::Gateways::own_name_of))]
+    fn read(&self, alloc: Global, at: &Cursor<'_>) -> Result<Name, Refusal> {
+        let name = forms::Name.read(alloc, at)?;
+        if is_among(name.bytes(), self.earlier) {
+            return Err(at.bad_value(alloc)?);
+        }
+        Ok(name)
+    }
+}
+
+// Where nothing is said, Routes of the Gateway's own namespace may attach.
+fn own_routes(alloc: Global) -> AllowedRoutes
+    ensures { result ≡ gateways.own_routes }
 {
-    own_name(alloc, earlier, &at.need(alloc, "name")?)
+    AllowedRoutes {
+        from: FromNamespaces::Same,
+        selector: None,
+        kinds: Vec::new(alloc),
+    }
 }
 
 #[tactic(auto, unfolding(crate::specs::Gateways::listener_of))]
 fn read_listener(alloc: Global, earlier: &[Listener], at: &Cursor<'_>) -> Result<Listener, Refusal>
-    ensures { Gives (λ listener. listener) result (gateways.listener_of earlier.now (place_of at.now)) }
+    ensures { Gives (λ x. x) result (gateways.listener_of earlier.now (node_of at.now)) }
 {
-    let name = name_field(alloc, earlier, at)?;
-    let hostname = some_hostname(alloc, at)?;
-    let port = at.need_port(alloc, "port")?;
-    let protocol = need_word(alloc, "protocol", at)?;
-    let allowed_routes = read_routes(alloc, at)?;
+    let name = at.needed(alloc, "name", OwnName { earlier })?;
+    let hostname = at.given(alloc, "hostname", forms::Hostname)?;
+    let port = at.needed(alloc, "port", Port)?;
+    let protocol = at.needed(alloc, "protocol", forms::Protocol)?;
+    let allowed_routes = at.defaulted(alloc, ALLOWED_ROUTES, AllowedRoutesForm, own_routes(alloc))?;
     Ok(Listener {
         name,
         hostname,
@@ -121,67 +143,56 @@ fn read_listener(alloc: Global, earlier: &[Listener], at: &Cursor<'_>) -> Result
     })
 }
 
-fn each_listener(alloc: Global, places: &[Cursor<'_>]) -> Result<Vec<Listener>, Refusal>
-    ensures { Gives (λ v. v.items) result (gateways.listeners_from [] (map place_of places.now)) }
+fn each_listener(alloc: Global, nodes: &[Cursor<'_>]) -> Result<Vec<Listener>, Refusal>
+    ensures { Gives (λ v. v.items) result (gateways.listeners_from [] (map node_of nodes.now)) }
 {
-    let mut listeners = Vec::with_capacity(alloc, places.len())?;
-    'places: for place in places {
-        let next = read_listener(alloc, listeners.as_slice(), place)?;
+    let mut listeners = Vec::with_capacity(alloc, nodes.len())?;
+    'nodes: for node in nodes {
+        let next = read_listener(alloc, listeners.as_slice(), node)?;
         listeners.push(next)?;
     }
     Ok(listeners)
 }
 
-#[tactic(auto, unfolding(crate::specs::Gateways::listener_places_of))]
-fn listener_places<'v>(alloc: Global, at: &Cursor<'v>) -> Result<Vec<Cursor<'v>>, Refusal>
-    ensures { Gives (λ v. map place_of v.items) result (gateways.listener_places_of (place_of at.now)) }
-{
-    let places = at.items(alloc, 64)?;
-    if places.is_empty() {
-        return Err(at.bad_value(alloc)?);
+/// The listeners of a Gateway.
+#[derive(Clone, Copy)]
+struct ListenersForm;
+
+impl Form for ListenersForm {
+    type Value = Vec<Listener>;
+
+    ghost use Rattle.std.specs.Prelude.{List};
+    ghost use Rattle.gw_text.specs.model.Gateways.{Listener as Plain};
+
+    ghost Seen = { List Plain };
+
+    ghost seen = { λ v. v.items };
+
+    ghost of = { λ _. gateways.listeners_of };
+
+    #[tactic(auto, unfolding(crate::specs::Gateways::listeners_of))]
+    fn read(&self, alloc: Global, at: &Cursor<'_>) -> Result<Vec<Listener>, Refusal> {
+        let nodes = at.items(alloc, 64)?;
+        if nodes.is_empty() {
+            return Err(at.bad_value(alloc)?);
+        }
+        each_listener(alloc, nodes.as_slice())
     }
-    Ok(places)
-}
-
-#[tactic(auto, unfolding(crate::specs::Gateways::listeners_of, gw_json::specs::Rows::needed))]
-fn listeners(alloc: Global, spec: &Cursor<'_>) -> Result<Vec<Listener>, Refusal>
-    ensures { Gives (λ v. v.items) result (gateways.listeners_of (place_of spec.now)) }
-{
-    let places = listener_places(alloc, &spec.need(alloc, "listeners")?)?;
-    each_listener(alloc, places.as_slice())
-}
-
-#[tactic(auto, unfolding(crate::specs::Gateways::addresses_of))]
-fn addresses(alloc: Global, spec: &Cursor<'_>) -> Result<Vec<Address>, Refusal>
-    ensures { Gives (λ v. v.items) result (gateways.addresses_of (place_of spec.now)) }
-{
-    let places = spec.list(alloc, "addresses", 16)?;
-    each_item(alloc, places.as_slice())
-}
-
-#[tactic(auto, unfolding(crate::specs::Gateways::class_name_of))]
-fn class_name(alloc: Global, spec: &Cursor<'_>) -> Result<Text, Refusal>
-    ensures { Gives (λ name. name) result (gateways.class_name_of (place_of spec.now)) }
-{
-    need_name(alloc, "gatewayClassName", spec)
 }
 
 /// The Gateway of this metadata. `at` is the whole object.
 #[tactic(auto, unfolding(crate::specs::Gateways::gateway_of))]
 pub fn read_gateway(alloc: Global, meta: Meta, at: &Cursor<'_>) -> Result<Gateway, Refusal>
-    ensures { Gives (λ gateway. gateway.object) result (gateways.gateway_of meta (place_of at.now)) }
+    ensures { Gives (λ x. x) result (gateways.gateway_of meta (node_of at.now)) }
 {
     let spec = at.spec(alloc)?;
-    let gateway_class_name = class_name(alloc, &spec)?;
-    let listeners = listeners(alloc, &spec)?;
-    let addresses = addresses(alloc, &spec)?;
-    Ok(Held::new(
-        alloc,
-        GatewayFields {
-            meta,
-            gateway_class_name,
-            listeners,
-            addresses,
-        },
-    )?)
+    let gateway_class_name = spec.needed(alloc, GATEWAY_CLASS_NAME, forms::Name)?;
+    let listeners = spec.needed(alloc, "listeners", ListenersForm)?;
+    let addresses = spec.listed(alloc, "addresses", 16, AddressForm)?;
+    Ok(Gateway {
+        meta,
+        gateway_class_name,
+        listeners,
+        addresses,
+    })
 }

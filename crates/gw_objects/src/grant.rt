@@ -1,10 +1,10 @@
 ghost use Rattle.gw_json.specs.Words.{Gives};
-ghost use Rattle.gw_json.specs.Fields.{place_of};
+ghost use Rattle.gw_json.specs.Fields.{node_of};
 ghost use Rattle.gw_objects.specs.Grants as grants;
 
-use crate::fields::{need_namespace_name, need_word, some_name};
-use gw_json::{Cursor, Item, Refusal, each_item};
-use gw_text::{Held, Meta, Text};
+use gw_forms as forms;
+use gw_json::{Cursor, Form, Refusal};
+use gw_text::{Meta, Name, NamespaceName, Text};
 use std::alloc::Global;
 use std::marker::Model;
 
@@ -13,7 +13,7 @@ use std::marker::Model;
 pub struct GrantFrom {
     pub group: Text,
     pub kind: Text,
-    pub namespace: Text,
+    pub namespace: NamespaceName,
 }
 
 impl Model for GrantFrom {
@@ -24,14 +24,22 @@ impl Model for GrantFrom {
     ghost view = { λ f. record { group = f.group; kind = f.kind; namespace = f.namespace } };
 }
 
-impl Item for GrantFrom {
-    ghost of = { grants.grant_from_of };
+/// An item of spec.from.
+#[derive(Clone, Copy)]
+pub struct GrantFromForm;
+
+impl Form for GrantFromForm {
+    type Value = GrantFrom;
+
+    ghost seen = { λ value. value };
+
+    ghost of = { λ _. grants.grant_from_of };
 
     #[tactic(auto, unfolding(crate::specs::Grants::grant_from_of))]
-    fn read(alloc: Global, at: &Cursor<'_>) -> Result<GrantFrom, Refusal> {
-        let group = need_word(alloc, "group", at)?;
-        let kind = need_word(alloc, "kind", at)?;
-        let namespace = need_namespace_name(alloc, "namespace", at)?;
+    fn read(&self, alloc: Global, at: &Cursor<'_>) -> Result<GrantFrom, Refusal> {
+        let group = at.needed(alloc, "group", forms::Word)?;
+        let kind = at.needed(alloc, "kind", forms::Word)?;
+        let namespace = at.needed(alloc, "namespace", forms::Namespace)?;
         Ok(GrantFrom {
             group,
             kind,
@@ -45,7 +53,7 @@ impl Item for GrantFrom {
 pub struct GrantTo {
     pub group: Text,
     pub kind: Text,
-    pub name: Option<Text>,
+    pub name: Option<Name>,
 }
 
 impl Model for GrantTo {
@@ -56,27 +64,35 @@ impl Model for GrantTo {
     ghost view = { λ t. record { group = t.group; kind = t.kind; name = t.name } };
 }
 
-impl Item for GrantTo {
-    ghost of = { grants.grant_to_of };
+/// An item of spec.to.
+#[derive(Clone, Copy)]
+pub struct GrantToForm;
+
+impl Form for GrantToForm {
+    type Value = GrantTo;
+
+    ghost seen = { λ value. value };
+
+    ghost of = { λ _. grants.grant_to_of };
 
     #[tactic(auto, unfolding(crate::specs::Grants::grant_to_of))]
-    fn read(alloc: Global, at: &Cursor<'_>) -> Result<GrantTo, Refusal> {
-        let group = need_word(alloc, "group", at)?;
-        let kind = need_word(alloc, "kind", at)?;
-        let name = some_name(alloc, "name", at)?;
+    fn read(&self, alloc: Global, at: &Cursor<'_>) -> Result<GrantTo, Refusal> {
+        let group = at.needed(alloc, "group", forms::Word)?;
+        let kind = at.needed(alloc, "kind", forms::Word)?;
+        let name = at.given(alloc, "name", forms::Name)?;
         Ok(GrantTo { group, kind, name })
     }
 }
 
-/// The fields of a ReferenceGrant.
+/// A ReferenceGrant.
 #[derive(Drop)]
-pub struct ReferenceGrantFields {
+pub struct ReferenceGrant {
     pub meta: Meta,
     pub from: Vec<GrantFrom>,
     pub to: Vec<GrantTo>,
 }
 
-impl Model for ReferenceGrantFields {
+impl Model for ReferenceGrant {
     ghost use Rattle.gw_text.specs.model.Grants.{ReferenceGrant as Plain};
 
     ghost Value = { Plain };
@@ -84,32 +100,13 @@ impl Model for ReferenceGrantFields {
     ghost view = { λ g. record { meta = g.meta; from = g.from.items; to = g.to.items } };
 }
 
-/// A ReferenceGrant, one pointer wide.
-pub type ReferenceGrant = Held<ReferenceGrantFields>;
-
-#[tactic(auto, unfolding(crate::specs::Grants::from_of))]
-fn from(alloc: Global, spec: &Cursor<'_>) -> Result<Vec<GrantFrom>, Refusal>
-    ensures { Gives (λ v. v.items) result (grants.from_of (place_of spec.now)) }
-{
-    let places = spec.need_list(alloc, "from", 16)?;
-    each_item(alloc, places.as_slice())
-}
-
-#[tactic(auto, unfolding(crate::specs::Grants::to_of))]
-fn to(alloc: Global, spec: &Cursor<'_>) -> Result<Vec<GrantTo>, Refusal>
-    ensures { Gives (λ v. v.items) result (grants.to_of (place_of spec.now)) }
-{
-    let places = spec.need_list(alloc, "to", 16)?;
-    each_item(alloc, places.as_slice())
-}
-
 /// The ReferenceGrant of this metadata. `at` is the whole object.
 #[tactic(auto, unfolding(crate::specs::Grants::grant_of))]
 pub fn read_grant(alloc: Global, meta: Meta, at: &Cursor<'_>) -> Result<ReferenceGrant, Refusal>
-    ensures { Gives (λ grant. grant.object) result (grants.grant_of meta (place_of at.now)) }
+    ensures { Gives (λ x. x) result (grants.grant_of meta (node_of at.now)) }
 {
     let spec = at.spec(alloc)?;
-    let from = from(alloc, &spec)?;
-    let to = to(alloc, &spec)?;
-    Ok(Held::new(alloc, ReferenceGrantFields { meta, from, to })?)
+    let from = spec.needed_list(alloc, "from", 16, GrantFromForm)?;
+    let to = spec.needed_list(alloc, "to", 16, GrantToForm)?;
+    Ok(ReferenceGrant { meta, from, to })
 }

@@ -13,14 +13,12 @@ mod routes;
 mod selector;
 mod service;
 mod slice;
-#[cfg(test)]
-mod tests;
 
-pub use class::{GatewayClass, GatewayClassFields, read_class};
-pub use gateway::{Address, Gateway, GatewayFields, Listener, read_gateway};
-pub use grant::{GrantFrom, GrantTo, ReferenceGrant, ReferenceGrantFields, read_grant};
+pub use class::{GatewayClass, read_class};
+pub use gateway::{Address, Gateway, Listener, read_gateway};
+pub use grant::{GrantFrom, GrantTo, ReferenceGrant, read_grant};
 pub use meta::{read_key, read_meta};
-pub use namespace::{Namespace, NamespaceFields, read_namespace};
-pub use routes::{AllowedRoutes, FromNamespaces, RouteKind};
-pub use service::{Service, ServiceFields, ServicePort, read_service};
-pub use slice::{Endpoint, EndpointPort, EndpointSlice, EndpointSliceFields, read_slice};
+pub use namespace::{Namespace, read_namespace};
+pub use routes::{AllowedRoutes, RouteKind};
+pub use service::{Service, ServicePort, read_service};
+pub use slice::{Endpoint, EndpointPort, EndpointSlice, read_slice};

@@ -1,24 +1,25 @@
 ghost use Rattle.std.specs.Prelude.{◌≡◌, OnOk};
 ghost use Rattle.gw_json.specs.Words.{Gives};
-ghost use Rattle.gw_json.specs.Fields.{place_of};
+ghost use Rattle.gw_json.specs.Fields.{node_of};
+ghost use Rattle.gw_text.specs.model.Namespaces.{with_own_name};
 ghost use Rattle.gw_objects.specs.Namespaces as namespaces;
 
 use crate::labels::read_labels;
 use gw_json::{Cursor, Refusal};
 use gw_labels::Labels;
-use gw_text::{Held, Meta};
+use gw_text::Meta;
 use std::alloc::{AllocError, Global};
 use std::marker::Model;
 
-/// The fields of a Namespace.
+/// A Namespace.
 #[derive(Drop)]
-pub struct NamespaceFields {
+pub struct Namespace {
     pub meta: Meta,
     /// `kubernetes.io/metadata.name` is the namespace's own name.
     pub labels: Labels,
 }
 
-impl Model for NamespaceFields {
+impl Model for Namespace {
     ghost use Rattle.gw_text.specs.model.Namespaces.{Namespace as Plain};
 
     ghost Value = { Plain };
@@ -26,11 +27,8 @@ impl Model for NamespaceFields {
     ghost view = { λ n. record { meta = n.meta; labels = n.labels } };
 }
 
-/// A Namespace, one pointer wide.
-pub type Namespace = Held<NamespaceFields>;
-
 fn put_own_name(alloc: Global, meta: &Meta, labels: &mut Labels) -> Result<(), AllocError>
-    ensures { OnOk result (labels.new ≡ namespaces.with_own_name meta.now labels.old) }
+    ensures { OnOk result (labels.new ≡ with_own_name meta.now.key.name labels.old) }
 {
     let name = meta.key.name.printed(alloc)?;
     labels.put("kubernetes.io/metadata.name", name.as_str())
@@ -39,9 +37,9 @@ fn put_own_name(alloc: Global, meta: &Meta, labels: &mut Labels) -> Result<(), A
 /// The Namespace of this metadata. `at` is the whole object.
 #[tactic(auto, unfolding(crate::specs::Namespaces::namespace_of))]
 pub fn read_namespace(alloc: Global, meta: Meta, at: &Cursor<'_>) -> Result<Namespace, Refusal>
-    ensures { Gives (λ namespace. namespace.object) result (namespaces.namespace_of meta (place_of at.now)) }
+    ensures { Gives (λ x. x) result (namespaces.namespace_of meta (node_of at.now)) }
 {
     let mut labels = read_labels(alloc, at)?;
     put_own_name(alloc, &meta, &mut labels)?;
-    Ok(Held::new(alloc, NamespaceFields { meta, labels })?)
+    Ok(Namespace { meta, labels })
 }

@@ -1,130 +1,147 @@
-ghost use Rattle.std.specs.Prelude.{map};
-ghost use Rattle.std.specs.Map.{keys_of};
-ghost use Rattle.gw_json.specs.Words.{Gives, each, after};
-ghost use Rattle.gw_json.specs.Fields.{place_of, named_place};
-ghost use Rattle.gw_objects.specs.Forms.{word_of};
-ghost use Rattle.gw_objects.specs.Seen.{seen_op, seen_selector};
+ghost use Rattle.std.specs.Prelude.{[], map};
+ghost use Rattle.gw_json.specs.Words.{Gives, each};
+ghost use Rattle.gw_json.specs.Fields.{node_of, named_node};
+ghost use Rattle.gw_json.specs.Presence.{any_length};
+ghost use Rattle.gw_forms.specs.Forms as forms;
 ghost use Rattle.gw_objects.specs.Selectors as selectors;
 
-use gw_json::{Cursor, Refusal};
-use gw_labels::{Labels, Op, Selector};
-use std::alloc::Global;
+use crate::fields::{MATCH_EXPRESSIONS, MATCH_LABELS};
+use crate::labels::word_in;
+use gw_json::{Cursor, Form, Refusal, TextForm};
+use gw_labels::{Labels, Op, Requirement, Selector};
+use std::alloc::{AllocError, Global};
 
-#[tactic(auto, unfolding(crate::specs::Selectors::asked_of))]
-fn ask(alloc: Global, member: &(String, Cursor<'_>), selector: &mut Selector) -> Result<(), Refusal>
-    ensures { Gives (λ _. seen_selector selector.new) result (selectors.also (seen_selector selector.old) (selectors.asked_of (named_place member.now))) }
+/// The members of matchLabels.
+#[derive(Clone, Copy)]
+struct MatchLabelsForm;
+
+impl Form for MatchLabelsForm {
+    type Value = Vec<Requirement>;
+
+    ghost use Rattle.std.specs.Prelude.{List};
+    ghost use Rattle.gw_labels.specs.Selectors.{Requirement as Plain};
+
+    ghost Seen = { List Plain };
+
+    ghost seen = { λ v. v.items };
+
+    ghost of = { λ _. selectors.match_labels_of };
+
+    #[tactic(auto, unfolding(crate::specs::Selectors::match_labels_of))]
+    fn read(&self, alloc: Global, at: &Cursor<'_>) -> Result<Vec<Requirement>, Refusal> {
+        each_label(alloc, at.members(alloc)?.as_slice())
+    }
+}
+
+#[tactic(auto, unfolding(crate::specs::Selectors::label_requirement_of))]
+fn label_requirement(alloc: Global, member: &(String, Cursor<'_>)) -> Result<Requirement, Refusal>
+    ensures { Gives (λ x. x) result (selectors.label_requirement_of (named_node member.now)) }
 {
     let mut value = Labels::new(alloc);
-    value.put(member.1.text_in(alloc, 512)?, "")?;
-    selector.need(member.0.as_str(), Op::In, &value)?;
-    Ok(())
+    value.put(word_in(alloc, &member.1)?, "")?;
+    Ok(Requirement::new(alloc, member.0.as_str(), Op::In, &value)?)
 }
 
-fn ask_each(
-    alloc: Global,
-    members: &[(String, Cursor<'_>)],
-    selector: &mut Selector,
-) -> Result<(), Refusal>
-    ensures { Gives (λ _. seen_selector selector.new) result (after (seen_selector selector.old) (each selectors.asked_of (map named_place members.now))) }
+fn each_label(alloc: Global, members: &[(String, Cursor<'_>)]) -> Result<Vec<Requirement>, Refusal>
+    ensures { Gives (λ v. v.items) result (each selectors.label_requirement_of (map named_node members.now)) }
 {
+    let mut needs = Vec::with_capacity(alloc, members.len())?;
     'members: for member in members {
-        ask(alloc, member, selector)?;
+        needs.push(label_requirement(alloc, member)?)?;
     }
-    Ok(())
+    Ok(needs)
 }
 
-#[tactic(auto, unfolding(crate::specs::Selectors::label_members_of))]
-fn label_members<'v>(alloc: Global, at: &Cursor<'v>) -> Result<Vec<(String, Cursor<'v>)>, Refusal>
-    ensures { Gives (λ v. map named_place v.items) result (selectors.label_members_of (place_of at.now)) }
-{
-    at.field_members(alloc, "matchLabels")
-}
+/// The operator of a requirement.
+#[derive(Clone, Copy)]
+struct OpName;
 
-#[tactic(auto, unfolding(crate::specs::Selectors::match_labels_of))]
-fn match_labels(alloc: Global, at: &Cursor<'_>, selector: &mut Selector) -> Result<(), Refusal>
-    ensures { Gives (λ _. seen_selector selector.new) result (after (seen_selector selector.old) (selectors.match_labels_of (place_of at.now))) }
-{
-    let members = label_members(alloc, at)?;
-    ask_each(alloc, members.as_slice(), selector)
-}
+impl TextForm for OpName {
+    type Value = Op;
 
-#[tactic(auto, unfolding(crate::specs::Selectors::op_of, crate::specs::Selectors::named_op))]
-fn op(alloc: Global, at: &Cursor<'_>) -> Result<Op, Refusal>
-    ensures { Gives seen_op result (selectors.op_of (place_of at.now)) }
-{
-    match at.text_in(alloc, usize::MAX)? {
-        "In" => Ok(Op::In),
-        "NotIn" => Ok(Op::NotIn),
-        "Exists" => Ok(Op::Exists),
-        "DoesNotExist" => Ok(Op::DoesNotExist),
-        _ => Err(at.bad_value(alloc)?),
+    ghost most = { λ _. any_length };
+
+    ghost value = { λ _. selectors.named_op };
+
+    fn most(&self) -> usize {
+        usize::MAX
+    }
+
+    #[tactic(auto, unfolding(crate::specs::Selectors::named_op))]
+    fn value(&self, _alloc: Global, text: &str) -> Result<Option<Op>, AllocError> {
+        match text {
+            "In" => Ok(Some(Op::In)),
+            "NotIn" => Ok(Some(Op::NotIn)),
+            "Exists" => Ok(Some(Op::Exists)),
+            "DoesNotExist" => Ok(Some(Op::DoesNotExist)),
+            _ => Ok(None),
+        }
     }
 }
 
-fn value_set(alloc: Global, places: &[Cursor<'_>]) -> Result<Labels, Refusal>
-    ensures { Gives (λ set. set) result (selectors.gathered (each word_of (map place_of places.now))) }
+/// The values of a requirement, as the keys of a map.
+#[derive(Clone, Copy)]
+struct ValuesForm;
+
+impl Form for ValuesForm {
+    type Value = Labels;
+
+    ghost seen = { λ value. value };
+
+    ghost of = { λ _. selectors.values_of };
+
+    #[tactic(auto, unfolding(crate::specs::Selectors::values_of))]
+    fn read(&self, alloc: Global, at: &Cursor<'_>) -> Result<Labels, Refusal> {
+        value_set(alloc, at.items(alloc, 64)?.as_slice())
+    }
+}
+
+fn value_set(alloc: Global, nodes: &[Cursor<'_>]) -> Result<Labels, Refusal>
+    ensures { Gives (λ x. x) result (selectors.gathered_on [] (each forms.word (map node_of nodes.now))) }
 {
     let mut set = Labels::new(alloc);
-    'places: for place in places {
-        set.put(place.text_in(alloc, 512)?, "")?;
+    'nodes: for node in nodes {
+        set.put(word_in(alloc, node)?, "")?;
     }
     Ok(set)
 }
 
-#[tactic(auto, unfolding(crate::specs::Selectors::values_of))]
-fn values(alloc: Global, at: &Cursor<'_>) -> Result<Labels, Refusal>
-    ensures { Gives keys_of result (selectors.values_of (place_of at.now)) }
-{
-    let places = at.list(alloc, "values", 64)?;
-    value_set(alloc, places.as_slice())
-}
+/// An item of matchExpressions.
+#[derive(Clone, Copy)]
+struct ExpressionForm;
 
-#[tactic(auto, unfolding(crate::specs::Selectors::expression_of, gw_json::specs::Rows::needed))]
-fn expression(alloc: Global, at: &Cursor<'_>, selector: &mut Selector) -> Result<(), Refusal>
-    ensures { Gives (λ _. seen_selector selector.new) result (selectors.also (seen_selector selector.old) (selectors.expression_of (place_of at.now))) }
-{
-    let key = at.need_text(alloc, "key", 512)?;
-    let op = op(alloc, &at.need(alloc, "operator")?)?;
-    let values = values(alloc, at)?;
-    selector.need(key, op, &values)?;
-    Ok(())
-}
+impl Form for ExpressionForm {
+    type Value = Requirement;
 
-fn each_expression(
-    alloc: Global,
-    places: &[Cursor<'_>],
-    selector: &mut Selector,
-) -> Result<(), Refusal>
-    ensures { Gives (λ _. seen_selector selector.new) result (after (seen_selector selector.old) (each selectors.expression_of (map place_of places.now))) }
-{
-    'places: for place in places {
-        expression(alloc, place, selector)?;
+    ghost seen = { λ value. value };
+
+    ghost of = { λ _. selectors.expression_of };
+
+    #[tactic(auto, unfolding(crate::specs::Selectors::expression_of, gw_json::specs::Presence::needed))]
+    fn read(&self, alloc: Global, at: &Cursor<'_>) -> Result<Requirement, Refusal> {
+        let key = word_in(alloc, &at.need(alloc, "key")?)?;
+        let op = at.needed(alloc, "operator", OpName)?;
+        let values = at.defaulted(alloc, "values", ValuesForm, Labels::new(alloc))?;
+        Ok(Requirement::new(alloc, key, op, &values)?)
     }
-    Ok(())
 }
 
-#[tactic(auto, unfolding(crate::specs::Selectors::expression_places_of))]
-fn expression_places<'v>(alloc: Global, at: &Cursor<'v>) -> Result<Vec<Cursor<'v>>, Refusal>
-    ensures { Gives (λ v. map place_of v.items) result (selectors.expression_places_of (place_of at.now)) }
-{
-    at.list(alloc, "matchExpressions", 64)
-}
+/// A selector of labels: the requirements of matchLabels, then those of matchExpressions.
+#[derive(Clone, Copy)]
+pub struct SelectorForm;
 
-#[tactic(auto, unfolding(crate::specs::Selectors::match_expressions_of))]
-fn match_expressions(alloc: Global, at: &Cursor<'_>, selector: &mut Selector) -> Result<(), Refusal>
-    ensures { Gives (λ _. seen_selector selector.new) result (after (seen_selector selector.old) (selectors.match_expressions_of (place_of at.now))) }
-{
-    let places = expression_places(alloc, at)?;
-    each_expression(alloc, places.as_slice(), selector)
-}
+impl Form for SelectorForm {
+    type Value = Selector;
 
-/// All that a selector asks: matchLabels in byte order, then matchExpressions.
-#[tactic(auto, unfolding(crate::specs::Selectors::selector_of))]
-pub fn read_selector(alloc: Global, at: &Cursor<'_>) -> Result<Selector, Refusal>
-    ensures { Gives seen_selector result (selectors.selector_of (place_of at.now)) }
-{
-    let mut selector = Selector::new(alloc);
-    match_labels(alloc, at, &mut selector)?;
-    match_expressions(alloc, at, &mut selector)?;
-    Ok(selector)
+    ghost seen = { λ value. value };
+
+    ghost of = { λ _. selectors.selector_of };
+
+    #[tactic(auto, unfolding(crate::specs::Selectors::selector_of))]
+    fn read(&self, alloc: Global, at: &Cursor<'_>) -> Result<Selector, Refusal> {
+        let mut needs = at.defaulted(alloc, MATCH_LABELS, MatchLabelsForm, Vec::new(alloc))?;
+        let mut expressions = at.listed(alloc, MATCH_EXPRESSIONS, 64, ExpressionForm)?;
+        needs.append(&mut expressions)?;
+        Ok(Selector::of(alloc, needs))
+    }
 }

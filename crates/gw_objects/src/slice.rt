@@ -1,15 +1,18 @@
-ghost use Rattle.std.specs.Prelude.{map};
-ghost use Rattle.gw_json.specs.Words.{Gives, each};
-ghost use Rattle.gw_json.specs.Fields.{place_of};
+ghost use Rattle.std.specs.Prelude.{◌≡◌, map};
+ghost use Rattle.gw_json.specs.Words.{Gives};
+ghost use Rattle.gw_json.specs.Fields.{node_of};
+ghost use Rattle.gw_text.specs.model.Slices.{is_ipv4_type};
 ghost use Rattle.gw_objects.specs.Slices as slices;
 
-use crate::fields::{need_word, word_or};
+use crate::fields::ADDRESS_TYPE;
 use crate::labels::read_labels;
-use gw_json::{Cursor, Item, Refusal, each_item};
+use gw_forms as forms;
+use gw_json::{Cursor, Form, Port, Refusal, Truth};
 use gw_labels::Labels;
-use gw_text::{Held, Ipv4, Meta, Text, parse_ipv4};
+use gw_text::{EndpointAddressType, Meta, Text};
 use std::alloc::Global;
 use std::marker::Model;
+use std::net::Ipv4Addr;
 
 /// A port of an EndpointSlice.
 #[derive(Drop)]
@@ -28,14 +31,22 @@ impl Model for EndpointPort {
     ghost view = { λ p. record { name = p.name; port = p.port; protocol = p.protocol } };
 }
 
-impl Item for EndpointPort {
-    ghost of = { slices.endpoint_port_of };
+/// An item of ports.
+#[derive(Clone, Copy)]
+struct EndpointPortForm;
+
+impl Form for EndpointPortForm {
+    type Value = EndpointPort;
+
+    ghost seen = { λ value. value };
+
+    ghost of = { λ _. slices.endpoint_port_of };
 
     #[tactic(auto, unfolding(crate::specs::Slices::endpoint_port_of))]
-    fn read(alloc: Global, at: &Cursor<'_>) -> Result<EndpointPort, Refusal> {
-        let name = word_or(alloc, "", "name", at)?;
-        let port = at.some_port(alloc, "port")?;
-        let protocol = word_or(alloc, "TCP", "protocol", at)?;
+    fn read(&self, alloc: Global, at: &Cursor<'_>) -> Result<EndpointPort, Refusal> {
+        let name = at.defaulted(alloc, "name", forms::Word, Text::of(alloc, "")?)?;
+        let port = at.given(alloc, "port", Port)?;
+        let protocol = at.defaulted(alloc, "protocol", forms::Word, Text::of(alloc, "TCP")?)?;
         Ok(EndpointPort {
             name,
             port,
@@ -48,7 +59,7 @@ impl Item for EndpointPort {
 #[derive(Clone, Copy, Debug, PartialEq, Eq)]
 pub struct Endpoint {
     /// Its first address, where the slice's are of IPv4.
-    pub address: Option<Ipv4>,
+    pub address: Option<Ipv4Addr>,
     pub ready: bool,
 }
 
@@ -62,17 +73,17 @@ impl Model for Endpoint {
     ghost inverse = { λ e. record { address = e.address; ready = e.ready } };
 }
 
-/// The fields of an EndpointSlice.
+/// An EndpointSlice.
 #[derive(Drop)]
-pub struct EndpointSliceFields {
+pub struct EndpointSlice {
     pub meta: Meta,
     pub labels: Labels,
-    pub address_type: Text,
+    pub address_type: EndpointAddressType,
     pub ports: Vec<EndpointPort>,
     pub endpoints: Vec<Endpoint>,
 }
 
-impl Model for EndpointSliceFields {
+impl Model for EndpointSlice {
     ghost use Rattle.gw_text.specs.model.Slices.{EndpointSlice as Plain};
 
     ghost Value = { Plain };
@@ -80,137 +91,109 @@ impl Model for EndpointSliceFields {
     ghost view = { λ s. record { meta = s.meta; labels = s.labels; address_type = s.address_type; ports = s.ports.items; endpoints = s.endpoints.items } };
 }
 
-/// An EndpointSlice, one pointer wide.
-pub type EndpointSlice = Held<EndpointSliceFields>;
-
-#[tactic(auto, unfolding(crate::specs::Slices::endpoint_ports_of))]
-fn endpoint_ports(alloc: Global, at: &Cursor<'_>) -> Result<Vec<EndpointPort>, Refusal>
-    ensures { Gives (λ v. v.items) result (slices.endpoint_ports_of (place_of at.now)) }
-{
-    let places = at.list(alloc, "ports", 1024)?;
-    each_item(alloc, places.as_slice())
-}
-
-#[tactic(auto, unfolding(crate::specs::Slices::ipv4_at))]
-fn ipv4(alloc: Global, at: &Cursor<'_>) -> Result<Ipv4, Refusal>
-    ensures { Gives (λ address. address) result (slices.ipv4_at (place_of at.now)) }
-{
-    let text = at.text_in(alloc, usize::MAX)?;
-    match parse_ipv4(text.as_bytes()) {
-        Some(address) => Ok(address),
-        None => Err(at.bad_value(alloc)?),
-    }
-}
-
 #[tactic(auto, unfolding(crate::specs::Slices::first_ipv4_of))]
 fn first_ipv4(
     alloc: Global,
     at: &Cursor<'_>,
-    places: &[Cursor<'_>],
-) -> Result<Option<Ipv4>, Refusal>
-    ensures { Gives (λ address. address) result (slices.first_ipv4_of at.now.path (map place_of places.now)) }
+    nodes: &[Cursor<'_>],
+) -> Result<Option<Ipv4Addr>, Refusal>
+    ensures { Gives (λ x. x) result (slices.first_ipv4_of at.now.path (map node_of nodes.now)) }
 {
-    match places.first() {
-        Some(place) => Ok(Some(ipv4(alloc, place)?)),
+    match nodes.first() {
+        Some(node) => Ok(Some(forms::Ipv4Address.read(alloc, node)?)),
         None => Err(at.bad_value(alloc)?),
     }
 }
 
-#[tactic(auto, unfolding(crate::specs::Slices::addresses_of))]
-fn addresses(alloc: Global, of_ipv4: bool, at: &Cursor<'_>) -> Result<Option<Ipv4>, Refusal>
-    ensures { Gives (λ address. address) result (slices.addresses_of of_ipv4 (place_of at.now)) }
+fn is_ipv4(address_type: &EndpointAddressType) -> bool
+    ensures { result ≡ is_ipv4_type address_type.now }
 {
-    let places = at.items(alloc, usize::MAX)?;
-    if of_ipv4 {
-        first_ipv4(alloc, at, places.as_slice())
-    } else {
-        Ok(None)
+    match address_type {
+        EndpointAddressType::Ipv4 => true,
+        EndpointAddressType::Other(_) => false,
     }
 }
 
-#[tactic(auto, unfolding(crate::specs::Slices::addresses_field_of, gw_json::specs::Rows::needed))]
-fn addresses_field(alloc: Global, of_ipv4: bool, at: &Cursor<'_>) -> Result<Option<Ipv4>, Refusal>
-    ensures { Gives (λ address. address) result (slices.addresses_field_of of_ipv4 (place_of at.now)) }
-{
-    addresses(alloc, of_ipv4, &at.need(alloc, "addresses")?)
+/// The addresses of an endpoint, of which the first is read where they are of IPv4.
+#[derive(Clone, Copy)]
+struct AddressesForm<'t> {
+    address_type: &'t EndpointAddressType,
 }
 
-#[tactic(auto, unfolding(crate::specs::Slices::conditions_of, gw_json::specs::Rows::defaulted))]
-fn conditions(alloc: Global, at: &Cursor<'_>) -> Result<bool, Refusal>
-    ensures { Gives (λ ready. ready) result (slices.conditions_of (place_of at.now)) }
-{
-    match at.get(alloc, "ready")? {
-        Some(found) => found.truth(alloc),
-        None => Ok(true),
+impl<'t> Form for AddressesForm<'t> {
+    type Value = Option<Ipv4Addr>;
+
+    ghost seen = { λ value. value };
+
+    ghost of = { λ form. slices.addresses_of form.address_type.now };
+
+    #[tactic(auto, unfolding(crate::specs::Slices::addresses_of))]
+    fn read(&self, alloc: Global, at: &Cursor<'_>) -> Result<Option<Ipv4Addr>, Refusal> {
+        let nodes = at.items(alloc, usize::MAX)?;
+        if is_ipv4(self.address_type) {
+            first_ipv4(alloc, at, nodes.as_slice())
+        } else {
+            Ok(None)
+        }
     }
 }
 
-#[tactic(auto, unfolding(crate::specs::Slices::ready_of, gw_json::specs::Rows::defaulted))]
-fn ready(alloc: Global, at: &Cursor<'_>) -> Result<bool, Refusal>
-    ensures { Gives (λ ready. ready) result (slices.ready_of (place_of at.now)) }
-{
-    match at.get(alloc, "conditions")? {
-        Some(found) => conditions(alloc, &found),
-        None => Ok(true),
+/// The conditions of an endpoint, of which `ready` is read.
+#[derive(Clone, Copy)]
+struct ConditionsForm;
+
+impl Form for ConditionsForm {
+    type Value = bool;
+
+    ghost seen = { λ value. value };
+
+    ghost of = { λ _. slices.conditions_of };
+
+    #[tactic(auto, unfolding(crate::specs::Slices::conditions_of))]
+    fn read(&self, alloc: Global, at: &Cursor<'_>) -> Result<bool, Refusal> {
+        at.defaulted(alloc, "ready", Truth, true)
     }
 }
 
-#[tactic(auto, unfolding(crate::specs::Slices::endpoint_of))]
-fn read_endpoint(alloc: Global, of_ipv4: bool, at: &Cursor<'_>) -> Result<Endpoint, Refusal>
-    ensures { Gives (λ endpoint. endpoint) result (slices.endpoint_of of_ipv4 (place_of at.now)) }
-{
-    let address = addresses_field(alloc, of_ipv4, at)?;
-    let ready = ready(alloc, at)?;
-    Ok(Endpoint { address, ready })
+/// An item of endpoints.
+#[derive(Clone, Copy)]
+struct EndpointForm<'t> {
+    address_type: &'t EndpointAddressType,
 }
 
-fn each_endpoint(
-    alloc: Global,
-    of_ipv4: bool,
-    places: &[Cursor<'_>],
-) -> Result<Vec<Endpoint>, Refusal>
-    ensures { Gives (λ v. v.items) result (each (slices.endpoint_of of_ipv4) (map place_of places.now)) }
-{
-    let mut endpoints = Vec::with_capacity(alloc, places.len())?;
-    'places: for place in places {
-        endpoints.push(read_endpoint(alloc, of_ipv4, place)?)?;
+impl<'t> Form for EndpointForm<'t> {
+    type Value = Endpoint;
+
+    ghost seen = { λ value. value };
+
+    ghost of = { λ form. slices.endpoint_of form.address_type.now };
+
+    #[tactic(auto, unfolding(crate::specs::Slices::endpoint_of))]
+    fn read(&self, alloc: Global, at: &Cursor<'_>) -> Result<Endpoint, Refusal> {
+        let address_type = self.address_type;
+        let address = at.needed(alloc, "addresses", AddressesForm { address_type })?;
+        let ready = at.defaulted(alloc, "conditions", ConditionsForm, true)?;
+        Ok(Endpoint { address, ready })
     }
-    Ok(endpoints)
-}
-
-#[tactic(auto, unfolding(crate::specs::Slices::endpoints_of))]
-fn endpoints(alloc: Global, of_ipv4: bool, at: &Cursor<'_>) -> Result<Vec<Endpoint>, Refusal>
-    ensures { Gives (λ v. v.items) result (slices.endpoints_of of_ipv4 (place_of at.now)) }
-{
-    let places = at.list(alloc, "endpoints", usize::MAX)?;
-    each_endpoint(alloc, of_ipv4, places.as_slice())
-}
-
-#[tactic(auto, unfolding(crate::specs::Slices::address_type_of))]
-fn address_type(alloc: Global, at: &Cursor<'_>) -> Result<Text, Refusal>
-    ensures { Gives (λ word. word) result (slices.address_type_of (place_of at.now)) }
-{
-    need_word(alloc, "addressType", at)
 }
 
 /// The EndpointSlice of this metadata. `at` is the whole object.
 #[tactic(auto, unfolding(crate::specs::Slices::slice_of))]
 pub fn read_slice(alloc: Global, meta: Meta, at: &Cursor<'_>) -> Result<EndpointSlice, Refusal>
-    ensures { Gives (λ slice. slice.object) result (slices.slice_of meta (place_of at.now)) }
+    ensures { Gives (λ x. x) result (slices.slice_of meta (node_of at.now)) }
 {
     let labels = read_labels(alloc, at)?;
-    let address_type = address_type(alloc, at)?;
-    let ports = endpoint_ports(alloc, at)?;
-    let of_ipv4 = address_type.bytes() == b"IPv4".as_slice();
-    let endpoints = endpoints(alloc, of_ipv4, at)?;
-    Ok(Held::new(
-        alloc,
-        EndpointSliceFields {
-            meta,
-            labels,
-            address_type,
-            ports,
-            endpoints,
-        },
-    )?)
+    let address_type = at.needed(alloc, ADDRESS_TYPE, forms::EndpointAddressType)?;
+    let ports = at.listed(alloc, "ports", 1024, EndpointPortForm)?;
+    let form = EndpointForm {
+        address_type: &address_type,
+    };
+    let endpoints = at.listed(alloc, "endpoints", usize::MAX, form)?;
+    Ok(EndpointSlice {
+        meta,
+        labels,
+        address_type,
+        ports,
+        endpoints,
+    })
 }

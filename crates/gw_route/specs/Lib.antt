@@ -1,5 +1,3 @@
-pub mod Texts
-pub mod Words
 pub mod Parents
 pub mod Matches
 pub mod SeenModifier

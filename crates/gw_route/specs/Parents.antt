@@ -1,31 +1,21 @@
--- The parentRefs of an HTTPRoute, row by row. Source: ParentReference of the Gateway API reference.
-use Rattle.std.specs.Prelude.{ℕ, List, codes, Option, Result, Ok}
+-- The parentRefs of an HTTPRoute, line by line. Source: ParentReference of the Gateway API reference.
+use Rattle.std.specs.Prelude.{ℕ, List, codes, Result, Ok}
 use Rattle.gw_json.specs.declared.refusal.Refusal.{Refusal}
-use Rattle.gw_json.specs.Words.{◌>>=◌, each}
-use Rattle.gw_json.specs.Fields.{Place}
+use Rattle.gw_json.specs.Words.{◌>>=◌}
+use Rattle.gw_json.specs.Fields.{Node}
+use Rattle.gw_json.specs.Presence.{needed, given, defaulted, port_of}
+use Rattle.gw_forms.specs.Forms as forms
+use Rattle.gw_text.specs.model.Kinds.{gateway_group}
 use Rattle.gw_text.specs.model.Routes.{ParentRef}
-use Rattle.gw_route.specs.declared.form.Form.TheVariants.{Word, Name, Namespace}
-use Rattle.gw_json.specs.Rows.{needed, given, defaulted, listed, port_of}
-use Rattle.gw_route.specs.Words.{formed}
-
-unfoldable pub parent_group_of : Place → Result (List ℕ) Refusal
-parent_group_of at = defaulted (codes "gateway.networking.k8s.io") (formed Word) (codes "group") at
-
-unfoldable pub section_name_of : Place → Result (Option (List ℕ)) Refusal
-section_name_of at = given (formed Name) (codes "sectionName") at
+use Rattle.gw_route.specs.declared.field_names.TheConstants.{SECTION_NAME}
 
 -- A reference from a Route of that namespace.
-unfoldable pub parent_of : List ℕ → Place → Result ParentRef Refusal
+unfoldable pub parent_of : List ℕ → Node → Result ParentRef Refusal
 parent_of own at = do
-  group ← parent_group_of at
-  kind ← defaulted (codes "Gateway") (formed Word) (codes "kind") at
-  namespace ← defaulted own (formed Namespace) (codes "namespace") at
-  name ← needed (formed Name) (codes "name") at
-  section_name ← section_name_of at
+  group ← defaulted gateway_group forms.word (codes "group") at
+  kind ← defaulted (codes "Gateway") forms.word (codes "kind") at
+  namespace ← defaulted own forms.namespace (codes "namespace") at
+  name ← needed forms.name (codes "name") at
+  section_name ← given forms.name SECTION_NAME.now at
   port ← given port_of (codes "port") at
   Ok (record { group = group; kind = kind; namespace = namespace; name = name; section_name = section_name; port = port })
-
-unfoldable pub parents_of : List ℕ → Place → Result (List ParentRef) Refusal
-parents_of own spec = do
-  places ← listed 32 (codes "parentRefs") spec
-  each (parent_of own) places

@@ -3,18 +3,15 @@
 #![tactic(auto)]
 
 mod backend;
+mod field_names;
 mod filter;
-mod form;
 mod matching;
 mod parent;
 mod plain;
 mod route;
-#[cfg(test)]
-mod tests;
-mod words;
 
 pub use plain::{
-    BackendRef, Edits, Filter, HeaderMatch, HttpRoute, HttpRouteFields, Match, ParentRef,
-    PathMatch, PathModifier, QueryParamMatch, Redirect, Rewrite, Rule,
+    BackendRef, Edits, Filter, HeaderMatch, HttpRoute, Match, ParentRef, PathMatch, PathModifier,
+    QueryParamMatch, Redirect, Rewrite, Rule,
 };
 pub use route::read_route;

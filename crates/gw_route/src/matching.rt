@@ -1,121 +1,121 @@
-ghost use Rattle.std.specs.Prelude.{◌≡◌, [], IfOk, codes, map};
-ghost use Rattle.gw_json.specs.Words.{Gives};
-ghost use Rattle.gw_json.specs.Fields.{place_of};
-ghost use Rattle.gw_json.specs.Rows.{defaulted};
+ghost use Rattle.std.specs.Prelude.{◌≡◌, [], IfOk};
 ghost use Rattle.gw_route.specs.Matches as matches;
 
-use crate::form::Form;
+use crate::field_names::QUERY_PARAMS;
 use crate::plain::{HeaderMatch, Match, PathMatch, QueryParamMatch};
-use crate::words::{form_or, need_form, some_form};
-use gw_json::{Cursor, Item, Refusal, each_item};
-use gw_text::Text;
+use gw_forms as forms;
+use gw_json::{Cursor, Form, Refusal};
+use gw_text::{PathMatchType, Text, ValueMatchType};
 use std::alloc::{AllocError, Global};
 
-impl Item for HeaderMatch {
-    ghost of = { matches.header_of };
+/// What is asked of a field.
+#[derive(Clone, Copy)]
+pub struct HeaderForm;
+
+impl Form for HeaderForm {
+    type Value = HeaderMatch;
+
+    ghost seen = { λ value. value };
+
+    ghost of = { λ _. matches.header_of };
 
     #[tactic(auto, unfolding(crate::specs::Matches::header_of))]
-    fn read(alloc: Global, at: &Cursor<'_>) -> Result<HeaderMatch, Refusal> {
-        let sort = form_or(alloc, b"Exact", Form::Word, "type", at)?;
-        let name = need_form(alloc, Form::Token, "name", at)?;
-        let value = need_form(alloc, Form::Value, "value", at)?;
-        Ok(HeaderMatch { sort, name, value })
-    }
-}
-
-impl Item for QueryParamMatch {
-    ghost of = { matches.query_param_of };
-
-    #[tactic(auto, unfolding(crate::specs::Matches::query_param_of))]
-    fn read(alloc: Global, at: &Cursor<'_>) -> Result<QueryParamMatch, Refusal> {
-        let sort = form_or(alloc, b"Exact", Form::Word, "type", at)?;
-        let name = need_form(alloc, Form::ParameterName, "name", at)?;
-        let value = need_form(alloc, Form::ParameterValue, "value", at)?;
-        Ok(QueryParamMatch { sort, name, value })
-    }
-}
-
-impl Item for Match {
-    ghost of = { matches.match_of };
-
-    #[tactic(auto, unfolding(crate::specs::Matches::match_of))]
-    fn read(alloc: Global, at: &Cursor<'_>) -> Result<Match, Refusal> {
-        let path = path_field(alloc, at)?;
-        let headers = headers(alloc, at)?;
-        let query_params = query_params(alloc, at)?;
-        let method = some_form(alloc, Form::Word, "method", at)?;
-        Ok(Match {
-            path,
-            headers,
-            query_params,
-            method,
+    fn read(&self, alloc: Global, at: &Cursor<'_>) -> Result<HeaderMatch, Refusal> {
+        Ok(HeaderMatch {
+            sort: at.defaulted(alloc, "type", forms::ValueMatchType, ValueMatchType::Exact)?,
+            name: at.needed(alloc, "name", forms::Token)?,
+            value: at.needed(alloc, "value", forms::FieldValue)?,
         })
     }
 }
 
-#[tactic(auto, unfolding(crate::specs::Matches::path_form))]
-fn path_form(sort: &Text) -> Form
-    ensures { result ≡ matches.path_form sort.now }
-{
-    if sort.bytes() == b"Exact".as_slice() || sort.bytes() == b"PathPrefix".as_slice() {
-        Form::Path
-    } else {
-        Form::OtherPath
+/// What is asked of a query parameter.
+#[derive(Clone, Copy)]
+pub struct QueryParamForm;
+
+impl Form for QueryParamForm {
+    type Value = QueryParamMatch;
+
+    ghost seen = { λ value. value };
+
+    ghost of = { λ _. matches.query_param_of };
+
+    #[tactic(auto, unfolding(crate::specs::Matches::query_param_of))]
+    fn read(&self, alloc: Global, at: &Cursor<'_>) -> Result<QueryParamMatch, Refusal> {
+        Ok(QueryParamMatch {
+            sort: at.defaulted(alloc, "type", forms::ValueMatchType, ValueMatchType::Exact)?,
+            name: at.needed(alloc, "name", forms::ParameterName)?,
+            value: at.needed(alloc, "value", forms::ParameterValue)?,
+        })
     }
 }
 
-#[tactic(auto, unfolding(crate::specs::Matches::path_of))]
-fn path(alloc: Global, at: &Cursor<'_>) -> Result<PathMatch, Refusal>
-    ensures { Gives (λ p. p) result (matches.path_of (place_of at.now)) }
+fn path_form(sort: &PathMatchType) -> forms::Plain
+    ensures { result ≡ matches.path_form sort.now }
 {
-    let sort = form_or(alloc, b"PathPrefix", Form::Word, "type", at)?;
-    let value = form_or(alloc, b"/", path_form(&sort), "value", at)?;
-    Ok(PathMatch { sort, value })
+    match sort {
+        PathMatchType::Exact | PathMatchType::PathPrefix => forms::Path,
+        PathMatchType::Other(_) => forms::AnyPath,
+    }
+}
+
+/// What is asked of a path.
+#[derive(Clone, Copy)]
+pub struct PathForm;
+
+impl Form for PathForm {
+    type Value = PathMatch;
+
+    ghost seen = { λ value. value };
+
+    ghost of = { λ _. matches.path_of };
+
+    #[tactic(auto, unfolding(crate::specs::Matches::path_of))]
+    fn read(&self, alloc: Global, at: &Cursor<'_>) -> Result<PathMatch, Refusal> {
+        let sort = at.defaulted(
+            alloc,
+            "type",
+            forms::PathMatchType,
+            PathMatchType::PathPrefix,
+        )?;
+        let value = at.defaulted(alloc, "value", path_form(&sort), Text::of(alloc, "/")?)?;
+        Ok(PathMatch { sort, value })
+    }
 }
 
 fn any_path(alloc: Global) -> Result<PathMatch, AllocError>
-    ensures { IfOk result (λ p. p ≡ matches.any_path) }
+    ensures { IfOk result (λ path. path ≡ matches.any_path) }
 {
-    let sort = Text::of(alloc, "PathPrefix")?;
-    let value = Text::of(alloc, "/")?;
-    Ok(PathMatch { sort, value })
+    Ok(PathMatch {
+        sort: PathMatchType::PathPrefix,
+        value: Text::of(alloc, "/")?,
+    })
 }
 
-#[tactic(auto, unfolding(gw_json::specs::Rows::defaulted))]
-fn path_field(alloc: Global, at: &Cursor<'_>) -> Result<PathMatch, Refusal>
-    ensures { Gives (λ p. p) result (defaulted matches.any_path matches.path_of (codes "path") (place_of at.now)) }
-{
-    match at.get(alloc, "path")? {
-        Some(found) => path(alloc, &found),
-        None => Ok(any_path(alloc)?),
+/// A match.
+#[derive(Clone, Copy)]
+pub struct MatchForm;
+
+impl Form for MatchForm {
+    type Value = Match;
+
+    ghost seen = { λ value. value };
+
+    ghost of = { λ _. matches.match_of };
+
+    #[tactic(auto, unfolding(crate::specs::Matches::match_of))]
+    fn read(&self, alloc: Global, at: &Cursor<'_>) -> Result<Match, Refusal> {
+        Ok(Match {
+            path: at.defaulted(alloc, "path", PathForm, any_path(alloc)?)?,
+            headers: at.listed(alloc, "headers", 16, HeaderForm)?,
+            query_params: at.listed(alloc, QUERY_PARAMS, 16, QueryParamForm)?,
+            method: at.given(alloc, "method", forms::Word)?,
+        })
     }
 }
 
-#[tactic(auto, unfolding(crate::specs::Matches::headers_of))]
-fn headers(alloc: Global, at: &Cursor<'_>) -> Result<Vec<HeaderMatch>, Refusal>
-    ensures { Gives (λ v. v.items) result (matches.headers_of (place_of at.now)) }
-{
-    let places = at.list(alloc, "headers", 16)?;
-    each_item(alloc, places.as_slice())
-}
-
-#[tactic(auto, unfolding(crate::specs::Matches::query_places_of))]
-fn query_places<'v>(alloc: Global, at: &Cursor<'v>) -> Result<Vec<Cursor<'v>>, Refusal>
-    ensures { Gives (λ v. map place_of v.items) result (matches.query_places_of (place_of at.now)) }
-{
-    at.list(alloc, "queryParams", 16)
-}
-
-#[tactic(auto, unfolding(crate::specs::Matches::query_params_of))]
-fn query_params(alloc: Global, at: &Cursor<'_>) -> Result<Vec<QueryParamMatch>, Refusal>
-    ensures { Gives (λ v. v.items) result (matches.query_params_of (place_of at.now)) }
-{
-    let places = query_places(alloc, at)?;
-    each_item(alloc, places.as_slice())
-}
-
 fn default_match(alloc: Global) -> Result<Match, AllocError>
-    ensures { IfOk result (λ m. m ≡ matches.default_match) }
+    ensures { IfOk result (λ found. found ≡ matches.default_match) }
 {
     Ok(Match {
         path: any_path(alloc)?,
@@ -125,24 +125,14 @@ fn default_match(alloc: Global) -> Result<Match, AllocError>
     })
 }
 
-/// The matches of a rule without any: one that every request meets.
-pub fn default_matches(alloc: Global) -> Result<Vec<Match>, AllocError>
-    ensures { IfOk result (λ v. v.items ≡ matches.or_default []) }
+/// The matches of a rule that lists these: where there are none, one that every request meets.
+pub fn or_default(alloc: Global, listed: Vec<Match>) -> Result<Vec<Match>, AllocError>
+    ensures { IfOk result (λ v. v.items ≡ matches.or_default listed.items) }
 {
+    if !listed.is_empty() {
+        return Ok(listed);
+    }
     let mut matches = Vec::with_capacity(alloc, 1)?;
     matches.push(default_match(alloc)?)?;
-    Ok(matches)
-}
-
-/// The matches of a rule.
-#[tactic(auto, unfolding(crate::specs::Matches::matches_of))]
-pub fn matches(alloc: Global, rule: &Cursor<'_>) -> Result<Vec<Match>, Refusal>
-    ensures { Gives (λ v. v.items) result (matches.matches_of (place_of rule.now)) }
-{
-    let places = rule.list(alloc, "matches", 64)?;
-    let matches = each_item(alloc, places.as_slice())?;
-    if matches.is_empty() {
-        return Ok(default_matches(alloc)?);
-    }
     Ok(matches)
 }

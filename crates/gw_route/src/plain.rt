@@ -1,5 +1,7 @@
 //! HTTPRoutes and their parts, with the defaults of absent fields filled in. A field `type` is called `sort`.
-use gw_text::{Field, Held, Host, Meta, Text};
+use gw_text::{
+    Fields, Host, Meta, Name, Names, NamespaceName, PathMatchType, Text, ValueMatchType,
+};
 use std::marker::Model;
 
 /// What a Route wants to be attached to: as a rule a Gateway, or one listener of it.
@@ -7,9 +9,9 @@ use std::marker::Model;
 pub struct ParentRef {
     pub group: Text,
     pub kind: Text,
-    pub namespace: Text,
-    pub name: Text,
-    pub section_name: Option<Text>,
+    pub namespace: NamespaceName,
+    pub name: Name,
+    pub section_name: Option<Name>,
     pub port: Option<u16>,
 }
 
@@ -24,8 +26,7 @@ impl Model for ParentRef {
 /// What is asked of a request's path.
 #[derive(Drop)]
 pub struct PathMatch {
-    /// Its type, as `PathPrefix`.
-    pub sort: Text,
+    pub sort: PathMatchType,
     pub value: Text,
 }
 
@@ -40,8 +41,7 @@ impl Model for PathMatch {
 /// What is asked of a field of a request.
 #[derive(Drop)]
 pub struct HeaderMatch {
-    /// Its type, as `Exact`.
-    pub sort: Text,
+    pub sort: ValueMatchType,
     pub name: Text,
     pub value: Text,
 }
@@ -57,8 +57,7 @@ impl Model for HeaderMatch {
 /// What is asked of a parameter in a request's query.
 #[derive(Drop)]
 pub struct QueryParamMatch {
-    /// Its type, as `Exact`.
-    pub sort: Text,
+    pub sort: ValueMatchType,
     pub name: Text,
     pub value: Text,
 }
@@ -91,10 +90,9 @@ impl Model for Match {
 /// What is done to the fields of a message.
 #[derive(Drop)]
 pub struct Edits {
-    pub set: Vec<Field>,
-    pub add: Vec<Field>,
-    /// Names of fields.
-    pub remove: Vec<Text>,
+    pub set: Fields,
+    pub add: Fields,
+    pub remove: Names,
 }
 
 impl Model for Edits {
@@ -102,7 +100,7 @@ impl Model for Edits {
 
     ghost Value = { Plain };
 
-    ghost view = { λ e. record { set = e.set.items; add = e.add.items; remove = e.remove.items } };
+    ghost view = { λ e. record { set = e.set; add = e.add; remove = e.remove } };
 }
 
 /// What becomes of a request's path.
@@ -170,8 +168,8 @@ pub struct BackendRef {
     /// The empty text is the core group.
     pub group: Text,
     pub kind: Text,
-    pub name: Text,
-    pub namespace: Text,
+    pub name: Name,
+    pub namespace: NamespaceName,
     /// A Service always has one.
     pub port: Option<u16>,
     /// Its share of the rule's requests, 0 to 1,000,000.
@@ -209,22 +207,19 @@ impl Model for Rule {
     ghost view = { λ r. record { matches = r.matches.items; filters = map seen_filter r.filters.items; backend_refs = r.backend_refs.items; timeouts = r.timeouts } };
 }
 
-/// The fields of an HTTPRoute.
+/// An HTTPRoute.
 #[derive(Drop)]
-pub struct HttpRouteFields {
+pub struct HttpRoute {
     pub meta: Meta,
     pub parent_refs: Vec<ParentRef>,
     pub hostnames: Vec<Host>,
     pub rules: Vec<Rule>,
 }
 
-impl Model for HttpRouteFields {
+impl Model for HttpRoute {
     ghost use Rattle.gw_text.specs.model.Routes.{HttpRoute as Plain};
 
     ghost Value = { Plain };
 
     ghost view = { λ r. record { meta = r.meta; parent_refs = r.parent_refs.items; hostnames = r.hostnames.items; rules = r.rules.items } };
 }
-
-/// An HTTPRoute, one pointer wide.
-pub type HttpRoute = Held<HttpRouteFields>;

@@ -13,7 +13,7 @@ kinds_have_no_float false = refl
 
 listener_has_no_float : (s : ListenerStatus) → has_float (listener_data s) ≡ false
 unfolding listener_data
-listener_has_no_float s = rw (kinds_have_no_float s.http) refl
+listener_has_no_float s = rw (kinds_have_no_float s.state.http) refl
 
 addresses_have_no_float : (address : Option Socket) → items_have_float (items_of (addresses_of address)) ≡ false
 addresses_have_no_float (Some at) = refl
@@ -26,4 +26,4 @@ class_has_no_float s = refl
 pub gateway_has_no_float : (s : GatewayStatus) → has_float (gateway_data s) ≡ false
 unfolding gateway_data
 gateway_has_no_float s =
-    rw (addresses_have_no_float s.address, items_have_float-map listener_data s.listeners listener_has_no_float) refl
+    rw (addresses_have_no_float s.state.address, items_have_float-map listener_data s.listeners listener_has_no_float) refl

@@ -7,6 +7,8 @@ use Rattle.gw_json.specs.Lines.{line_of}
 use Rattle.gw_text.specs.model.Forms.{printed}
 use Rattle.gw_text.specs.model.Conditions.{Condition, condition_kind_text, reason_text}
 use Rattle.gw_text.specs.model.Addresses.{Socket, address_text}
+use Rattle.gw_text.specs.model.Kinds.{gateway_group}
+use Rattle.gw_text.specs.model.Listeners.{ListenerState, GatewayState}
 use Rattle.gw_text.specs.model.Statuses.{ClassStatus, ListenerStatus, GatewayStatus, Statuses}
 
 -- The status of a condition. Source: ConditionStatus.
@@ -21,17 +23,20 @@ condition_data c =
     (member (codes "status") (string (truth_text c.truth))
     (member (codes "type") (string (condition_kind_text c.kind)) no_members)))
 
+-- A list of conditions.
 abbrev pub conditions_data : List Condition → Data
 conditions_data conditions = array (items_of (map condition_data conditions))
 
--- The conditions of a class, a listener and a Gateway, in the byte order of their types.
+-- The conditions of a class.
 abbrev pub class_conditions : ClassStatus → List Condition
 class_conditions s = s.accepted ∷ []
 
-abbrev pub listener_conditions : ListenerStatus → List Condition
+-- The conditions of a listener, in the byte order of their types.
+abbrev pub listener_conditions : ListenerState → List Condition
 listener_conditions s = s.accepted ∷ s.conflicted ∷ s.programmed ∷ s.resolved ∷ []
 
-abbrev pub gateway_conditions : GatewayStatus → List Condition
+-- The conditions of a Gateway, in the byte order of their types.
+abbrev pub gateway_conditions : GatewayState → List Condition
 gateway_conditions s = s.accepted ∷ s.programmed ∷ []
 
 -- A GatewayClass.
@@ -44,7 +49,7 @@ class_data s =
 -- HTTPRoute, a kind of Route. Source: RouteGroupKind.
 abbrev pub http_route_data : Data
 http_route_data =
-    object (member (codes "group") (string (codes "gateway.networking.k8s.io"))
+    object (member (codes "group") (string gateway_group)
     (member (codes "kind") (string (codes "HTTPRoute")) no_members))
 
 -- The supported kinds of a listener: HTTPRoute or none.
@@ -55,11 +60,11 @@ supported_kinds false = []
 -- A listener.
 unfoldable pub listener_data : ListenerStatus → Data
 listener_data s =
-    object (member (codes "conditions") (conditions_data (listener_conditions s))
+    object (member (codes "conditions") (conditions_data (listener_conditions s.state))
     (member (codes "name") (string (printed s.name))
-    (member (codes "supportedKinds") (array (items_of (supported_kinds s.http))) no_members)))
+    (member (codes "supportedKinds") (array (items_of (supported_kinds s.state.http))) no_members)))
 
--- An address of a Gateway. Source: IPAddressType.
+-- An address of a Gateway, without the port. Source: IPAddressType.
 abbrev pub address_data : Socket → Data
 address_data at =
     object (member (codes "type") (string (codes "IPAddress"))
@@ -73,8 +78,8 @@ addresses_of None = []
 -- The status of a Gateway.
 abbrev pub gateway_status_data : GatewayStatus → Data
 gateway_status_data s =
-    object (member (codes "addresses") (array (items_of (addresses_of s.address)))
-    (member (codes "conditions") (conditions_data (gateway_conditions s))
+    object (member (codes "addresses") (array (items_of (addresses_of s.state.address)))
+    (member (codes "conditions") (conditions_data (gateway_conditions s.state))
     (member (codes "listeners") (array (items_of (map listener_data s.listeners))) no_members)))
 
 -- A Gateway.
@@ -85,9 +90,11 @@ gateway_data s =
     (member (codes "namespace") (string (printed s.key.namespace))
     (member (codes "status") (gateway_status_data s) no_members))))
 
+-- A line for each class.
 abbrev pub classes_text : List ClassStatus → List ℕ
 classes_text classes = flat_map (λ s. line_of (class_data s)) classes
 
+-- A line for each Gateway.
 abbrev pub gateways_text : List GatewayStatus → List ℕ
 gateways_text gateways = flat_map (λ s. line_of (gateway_data s)) gateways
 

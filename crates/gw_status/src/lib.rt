@@ -1,15 +1,12 @@
-//! The conditions of classes, Gateways and listeners, and the text of all statuses.
+//! The statuses of classes, Gateways and listeners, and their text.
 #![tactic(auto)]
 
-mod condition;
-mod list;
+mod state;
 mod status;
-#[cfg(test)]
-mod tests;
 mod write;
 
-pub use condition::{CondKind, Condition, Reason};
-pub use list::List;
+pub use gw_text::{CondKind, Condition, Reason};
+pub use state::{GatewayState, ListenerState};
 pub use status::{
     ClassStatus, ClassStatuses, GatewayStatus, GatewayStatuses, ListenerStatus, ListenerStatuses,
     Statuses,

@@ -1,6 +1,5 @@
-use crate::condition::Condition;
-use crate::list::List;
-use gw_text::{Key, Socket, Text};
+use crate::state::{GatewayState, ListenerState};
+use gw_text::{Condition, Key, List, Name};
 use std::marker::Model;
 
 /// The statuses of classes, in key order.
@@ -24,21 +23,14 @@ impl Model for ClassStatus {
 
     ghost Value = { Plain };
 
-    ghost use Rattle.gw_status.specs.Seen.{seen_condition};
-
-    ghost view = { λ s. record { key = s.key; accepted = seen_condition s.accepted } };
+    ghost view = { λ s. record { key = s.key; accepted = s.accepted } };
 }
 
 /// The status of a listener.
 #[derive(Drop)]
 pub struct ListenerStatus {
-    pub name: Text,
-    pub accepted: Condition,
-    pub conflicted: Condition,
-    pub programmed: Condition,
-    pub resolved: Condition,
-    /// Whether HTTPRoute is a supported kind.
-    pub http: bool,
+    pub name: Name,
+    pub state: ListenerState,
 }
 
 impl Model for ListenerStatus {
@@ -46,26 +38,14 @@ impl Model for ListenerStatus {
 
     ghost Value = { Plain };
 
-    ghost use Rattle.gw_status.specs.Seen.{seen_condition};
-
-    ghost view = { λ s. record {
-      name = s.name;
-      accepted = seen_condition s.accepted;
-      conflicted = seen_condition s.conflicted;
-      programmed = seen_condition s.programmed;
-      resolved = seen_condition s.resolved;
-      http = s.http;
-    } };
+    ghost view = { λ s. record { name = s.name; state = s.state } };
 }
 
-/// The status of a Gateway.
+/// The status of a Gateway, with those of its listeners.
 #[derive(Drop)]
 pub struct GatewayStatus {
     pub key: Key,
-    pub accepted: Condition,
-    pub programmed: Condition,
-    /// Where its connections are taken, if it is programmed. Only the address is printed.
-    pub address: Option<Socket>,
+    pub state: GatewayState,
     pub listeners: ListenerStatuses,
 }
 
@@ -74,15 +54,7 @@ impl Model for GatewayStatus {
 
     ghost Value = { Plain };
 
-    ghost use Rattle.gw_status.specs.Seen.{seen_condition};
-
-    ghost view = { λ s. record {
-      key = s.key;
-      accepted = seen_condition s.accepted;
-      programmed = seen_condition s.programmed;
-      address = s.address;
-      listeners = s.listeners;
-    } };
+    ghost view = { λ s. record { key = s.key; state = s.state; listeners = s.listeners } };
 }
 
 /// All statuses, each kind in key order.

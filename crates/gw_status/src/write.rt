@@ -1,13 +1,11 @@
 ghost use Rattle.std.specs.Prelude.{◌≡◌, ◌++◌, IfOk, OnOk, string_bytes, map};
 ghost use Rattle.serde_json.specs.View.{view};
 ghost use Rattle.gw_json.specs.Lines.{line_of};
-ghost use Rattle.gw_status.specs.Seen.{seen_condition};
 ghost use Rattle.gw_status.specs.StatusText.{truth_text, condition_data, http_route_data, supported_kinds, class_data, listener_data, address_data, addresses_of, gateway_status_data, gateway_data, classes_text, gateways_text, statuses_text};
 
-use crate::condition::Condition;
 use crate::status::{ClassStatus, GatewayStatus, ListenerStatus, Statuses};
 use gw_json::push_line;
-use gw_text::{NoMemory, Socket, Text};
+use gw_text::{Condition, GATEWAY_GROUP, NoMemory, Socket, Text};
 use serde_json::{Value, json};
 use std::alloc::Global;
 
@@ -18,13 +16,13 @@ fn truth(is: bool) -> &'static str
 }
 
 fn condition_value(alloc: Global, condition: &Condition) -> Result<Value, NoMemory>
-    ensures { IfOk result (λ v. view v ≡ condition_data (seen_condition condition.now)) }
+    ensures { IfOk result (λ v. view v ≡ condition_data condition.now) }
 {
     json!(in alloc; {"reason": condition.reason.text(), "status": truth(condition.truth), "type": condition.kind.text()})
 }
 
 fn condition_values(alloc: Global, conditions: &[Condition]) -> Result<Vec<Value>, NoMemory>
-    ensures { IfOk result (λ v. map view v.items ≡ map condition_data (map seen_condition conditions.now)) }
+    ensures { IfOk result (λ v. map view v.items ≡ map condition_data conditions.now) }
 {
     let mut values = Vec::new(alloc);
     'conditions: for condition in conditions {
@@ -42,10 +40,11 @@ fn class_value(alloc: Global, status: &ClassStatus) -> Result<Value, NoMemory>
     json!(in alloc; {"kind": "GatewayClass", "name": name.as_str(), "status": {"conditions": Value::Array(conditions)}})
 }
 
+#[tactic(auto, unfolding(gw_text::specs::model::Kinds::gateway_group))]
 fn http_route(alloc: Global) -> Result<Value, NoMemory>
     ensures { IfOk result (λ v. view v ≡ http_route_data) }
 {
-    json!(in alloc; {"group": "gateway.networking.k8s.io", "kind": "HTTPRoute"})
+    json!(in alloc; {"group": GATEWAY_GROUP, "kind": "HTTPRoute"})
 }
 
 fn kind_values(alloc: Global, http: bool) -> Result<Vec<Value>, NoMemory>
@@ -62,13 +61,14 @@ fn kind_values(alloc: Global, http: bool) -> Result<Vec<Value>, NoMemory>
 fn listener_value(alloc: Global, status: &ListenerStatus) -> Result<Value, NoMemory>
     ensures { IfOk result (λ v. view v ≡ listener_data status.now) }
 {
+    let state = &status.state;
     let name = status.name.printed(alloc)?;
-    let kinds = kind_values(alloc, status.http)?;
+    let kinds = kind_values(alloc, state.http)?;
     let conditions = [
-        status.accepted,
-        status.conflicted,
-        status.programmed,
-        status.resolved,
+        state.accepted,
+        state.conflicted,
+        state.programmed,
+        state.resolved,
     ];
     let conditions = condition_values(alloc, &conditions)?;
     json!(in alloc; {"conditions": Value::Array(conditions), "name": name.as_str(), "supportedKinds": Value::Array(kinds)})
@@ -87,7 +87,7 @@ fn listener_values(alloc: Global, statuses: &[ListenerStatus]) -> Result<Vec<Val
 fn address_value(alloc: Global, at: &Socket) -> Result<Value, NoMemory>
     ensures { IfOk result (λ v. view v ≡ address_data at.now) }
 {
-    let address = at.address(alloc)?;
+    let address = at.print_address(alloc)?;
     let address = address.printed(alloc)?;
     json!(in alloc; {"type": "IPAddress", "value": address.as_str()})
 }
@@ -105,8 +105,9 @@ fn address_values(alloc: Global, address: &Option<Socket>) -> Result<Vec<Value>,
 fn gateway_status(alloc: Global, status: &GatewayStatus) -> Result<Value, NoMemory>
     ensures { IfOk result (λ v. view v ≡ gateway_status_data status.now) }
 {
-    let addresses = address_values(alloc, &status.address)?;
-    let conditions = condition_values(alloc, &[status.accepted, status.programmed])?;
+    let state = &status.state;
+    let addresses = address_values(alloc, &state.address)?;
+    let conditions = condition_values(alloc, &[state.accepted, state.programmed])?;
     let listeners = listener_values(alloc, status.listeners.as_slice())?;
     json!(in alloc; {"addresses": Value::Array(addresses), "conditions": Value::Array(conditions), "listeners": Value::Array(listeners)})
 }

@@ -1,17 +1,25 @@
 -- Where the objects of a namespace stand: they follow one another, since their keys begin alike.
-use Rattle.std.proofs.Common.{◌≡◌, ◌∙◌, ℕ, zero, suc, ◌<◌, ◌≤◌, Bool, true, false, List, [], ◌∷◌, length, map, take, drop, filter, refl, sym, ap, arith, get_or, nat_eq}
+use Rattle.std.proofs.Common.{◌≡◌, ◌∙◌, ℕ, zero, suc, ◌<◌, ◌≤◌, Bool, true, false, List, [], ◌∷◌, length, map, take, drop, filter, refl, sym, ap, arith, get_or, nat_eq, ◌++◌, cond}
 use Rattle.std.specs.List.{AllByRecursion, AllWithin, starts_with}
 use Rattle.std.specs.List.Sorted.{IsStrictlySortedBy, IsPartitionedBy, IsPartitionPoint}
-use Rattle.std.specs.Ordering.{is_lt}
+use Rattle.std.specs.Cmp.Lexicographic.{slice_cmp}
+use Rattle.std.specs.Ordering.{is_lt, nat_cmp}
 use Rattle.std.specs.declared.cmp.Ordering.{Ordering}
 use Rattle.std.specs.declared.cmp.Ordering.TheVariants.{Less, Equal, Greater}
 use Rattle.std.proofs.lemmas.Bool.Decides.{nat_tests}
 use Rattle.std.proofs.lemmas.Cmp.{nat_list_cmp_total}
 use mathlib.Core.Bool.{true≢false}
-use Rattle.gw_text.specs.model.Held.{Held, held_key, key_order, IsInKeyOrder}
+use Rattle.gw_text.specs.model.Names.{Key, joined, key_order, is_in_namespace}
+use Rattle.gw_text.specs.model.Stored.{Stored, stored_key, in_namespace, IsInKeyOrder}
+use Rattle.gw_text.proofs.Keys.{key_in_by_text}
+use Rattle.gw_store.specs.Table.{AllKeys}
+
+-- texts are ordered byte by byte
+abbrev pub text_order : List ℕ → List ℕ → Ordering
+text_order = slice_cmp nat_cmp
 
 -- what begins with a text isn't before it
-beginning : (a p : List ℕ) → starts_with nat_eq a p ≡ true → is_lt (key_order a p) ≡ false
+beginning : (a p : List ℕ) → starts_with nat_eq a p ≡ true → is_lt (text_order a p) ≡ false
 beginning [] [] begins = refl
 beginning (x ∷ a) [] begins = refl
 beginning [] (c ∷ p) begins = absurd (true≢false (sym begins))
@@ -23,11 +31,11 @@ not_less Equal other = refl
 not_less Greater other = refl
 
 -- what comes after a text that isn't before p isn't before p
-pub later : (a b p : List ℕ) → is_lt (key_order a p) ≡ false → key_order a b ≡ Less → is_lt (key_order b p) ≡ false
-later a b p high low = not_less (key_order b p) (λ e. true≢false (sym (ap is_lt (nat_list_cmp_total.trans a b p low e)) ∙ high))
+pub later : (a b p : List ℕ) → is_lt (text_order a p) ≡ false → text_order a b ≡ Less → is_lt (text_order b p) ≡ false
+later a b p high low = not_less (text_order b p) (λ e. true≢false (sym (ap is_lt (nat_list_cmp_total.trans a b p low e)) ∙ high))
 
 -- after p, what begins with p comes before what doesn't
-pub past : (a b p : List ℕ) → is_lt (key_order a p) ≡ false → starts_with nat_eq a p ≡ false → key_order a b ≡ Less → starts_with nat_eq b p ≡ false
+pub past : (a b p : List ℕ) → is_lt (text_order a p) ≡ false → starts_with nat_eq a p ≡ false → text_order a b ≡ Less → starts_with nat_eq b p ≡ false
 past a b [] high other low = absurd (true≢false other)
 past [] b (c ∷ p) high other low = absurd (true≢false high)
 past (x ∷ a) [] (c ∷ p) high other low = refl
@@ -73,61 +81,67 @@ filter_past q xs zero front within = refl
 filter_past q [] (suc i) front within = refl
 filter_past q (x ∷ xs) (suc i) front within = rw (front 0 x (omega arith) (omega arith)) (filter_past q xs i (λ k d low high. front (suc k) d (omega arith) (omega arith)) (omega arith))
 
-module _ {T : Type 0} (key : T → List ℕ) (p : List ℕ) where
-  abbrev pub before : Held T → Bool
-  before x = is_lt (key_order (key x.object) p)
+module _ {T : Type 0} (key : T → Key) (p : List ℕ) where
+  abbrev pub before : Stored T → Bool
+  before x = is_lt (text_order (joined (key x.object)) p)
 
-  abbrev pub within : Held T → Bool
-  within x = starts_with nat_eq (key x.object) p
+  abbrev pub within : Stored T → Bool
+  within x = starts_with nat_eq (joined (key x.object)) p
 
-  all_later : (x : Held T) (xs : List (Held T)) → before x ≡ false → AllByRecursion (λ l. key_order (key x.object) l ≡ Less) (map (held_key key) xs) → AllByRecursion (λ y. before y ≡ false) xs
+  all_later : (x : Stored T) (xs : List (Stored T)) → before x ≡ false → AllByRecursion (λ l. key_order (key x.object) l ≡ Less) (map (stored_key key) xs) → AllByRecursion (λ y. before y ≡ false) xs
   all_later x [] high all = tt
-  all_later x (y ∷ xs) high all = (later (key x.object) (key y.object) p high all.0, all_later x xs high all.1)
+  all_later x (y ∷ xs) high all = (later (joined (key x.object)) (joined (key y.object)) p high all.0, all_later x xs high all.1)
 
-  pub before_falls : (xs : List (Held T)) → IsInKeyOrder key xs → Falls before xs
+  pub before_falls : (xs : List (Stored T)) → IsInKeyOrder key xs → Falls before xs
   unfolding IsStrictlySortedBy
   before_falls [] order = tt
   before_falls (x ∷ xs) order = ((λ high. all_later x xs high order.0), before_falls xs order.1)
 
-  all_past : (x : Held T) (xs : List (Held T)) → before x ≡ false → within x ≡ false → AllByRecursion (λ l. key_order (key x.object) l ≡ Less) (map (held_key key) xs) → AllByRecursion (λ y. within y ≡ false) xs
+  all_past : (x : Stored T) (xs : List (Stored T)) → before x ≡ false → within x ≡ false → AllByRecursion (λ l. key_order (key x.object) l ≡ Less) (map (stored_key key) xs) → AllByRecursion (λ y. within y ≡ false) xs
   all_past x [] high other all = tt
-  all_past x (y ∷ xs) high other all = (past (key x.object) (key y.object) p high other all.0, all_past x xs high other all.1)
+  all_past x (y ∷ xs) high other all = (past (joined (key x.object)) (joined (key y.object)) p high other all.0, all_past x xs high other all.1)
 
-  pub within_falls : (xs : List (Held T)) → IsInKeyOrder key xs → AllByRecursion (λ y. before y ≡ false) xs → Falls within xs
+  pub within_falls : (xs : List (Stored T)) → IsInKeyOrder key xs → AllByRecursion (λ y. before y ≡ false) xs → Falls within xs
   unfolding IsStrictlySortedBy
   within_falls [] order high = tt
   within_falls (x ∷ xs) order high = ((λ other. all_past x xs high.0 other order.0), within_falls xs order.1 high.1)
 
-  pub ordered_drop : (xs : List (Held T)) (i : ℕ) → IsInKeyOrder key xs → IsInKeyOrder key (drop i xs)
+  pub ordered_drop : (xs : List (Stored T)) (i : ℕ) → IsInKeyOrder key xs → IsInKeyOrder key (drop i xs)
   unfolding IsStrictlySortedBy
   ordered_drop xs zero order = order
   ordered_drop [] (suc i) order = tt
   ordered_drop (x ∷ xs) (suc i) order = ordered_drop xs i order.1
 
-  all_take : (P : List ℕ → Type 0) (xs : List (Held T)) (j : ℕ) → AllByRecursion P (map (held_key key) xs) → AllByRecursion P (map (held_key key) (take j xs))
+  all_take : (P : Key → Type 0) (xs : List (Stored T)) (j : ℕ) → AllByRecursion P (map (stored_key key) xs) → AllByRecursion P (map (stored_key key) (take j xs))
   all_take P xs zero all = tt
   all_take P [] (suc j) all = tt
   all_take P (x ∷ xs) (suc j) all = (all.0, all_take P xs j all.1)
 
-  pub ordered_take : (xs : List (Held T)) (j : ℕ) → IsInKeyOrder key xs → IsInKeyOrder key (take j xs)
+  pub ordered_take : (xs : List (Stored T)) (j : ℕ) → IsInKeyOrder key xs → IsInKeyOrder key (take j xs)
   unfolding IsStrictlySortedBy
   ordered_take xs zero order = tt
   ordered_take [] (suc j) order = tt
   ordered_take (x ∷ xs) (suc j) order = (all_take _ xs j order.0, ordered_take xs j order.1)
 
-  pub high_drop : (xs : List (Held T)) (i : ℕ) → AllWithin (λ y. before y ≡ false) xs i (length xs) → AllByRecursion (λ y. before y ≡ false) (drop i xs)
+  pub high_drop : (xs : List (Stored T)) (i : ℕ) → AllWithin (λ y. before y ≡ false) xs i (length xs) → AllByRecursion (λ y. before y ≡ false) (drop i xs)
   high_drop [] zero rest = tt
   high_drop [] (suc i) rest = tt
   high_drop (x ∷ xs) zero rest = (rest 0 x (omega arith) (omega arith), high_drop xs 0 (λ k d low high. rest (suc k) d (omega arith) (omega arith)))
   high_drop (x ∷ xs) (suc i) rest = high_drop xs i (λ k d low high. rest (suc k) d (omega arith) (omega arith))
 
-  other_from_before : (x : Held T) → before x ≡ true → within x ≡ false
-  other_from_before x low = not_true (within x) (λ begins. true≢false (sym low ∙ beginning (key x.object) p begins))
+  other_from_before : (x : Stored T) → before x ≡ true → within x ≡ false
+  other_from_before x low = not_true (within x) (λ begins. true≢false (sym low ∙ beginning (joined (key x.object)) p begins))
 
   -- the objects whose keys begin with p are those between the two places
-  pub between : (xs : List (Held T)) (i j : ℕ) → i ≤ length xs → j ≤ length (drop i xs) →
+  pub between : (xs : List (Stored T)) (i j : ℕ) → i ≤ length xs → j ≤ length (drop i xs) →
       IsPartitionPoint (λ y. before y ≡ true) (λ y. before y ≡ false) xs i →
       IsPartitionPoint (λ y. within y ≡ true) (λ y. within y ≡ false) (drop i xs) j →
       take j (drop i xs) ≡ filter within xs
   between xs i j low high first second =
       sym (filter_past within xs i (λ k d l h. other_from_before (get_or xs k d) (first.0 k d l h)) low ∙ filter_front within (drop i xs) j second.0 second.1 high)
+
+-- the keys whose texts begin with a namespace and a slash are those that stand in it
+pub in_by_text : {T : Type 0} (key : T → Key) (namespace : List ℕ) (xs : List (Stored T)) → AllKeys key xs → filter (within key (namespace ++ 47 ∷ [])) xs ≡ in_namespace key namespace xs
+in_by_text key namespace [] keys = refl
+in_by_text key namespace (x ∷ xs) keys =
+    rw (key_in_by_text (key x.object) namespace keys.0) (ap (λ t. cond (is_in_namespace namespace (key x.object)) (x ∷ t) t) (in_by_text key namespace xs keys.1))

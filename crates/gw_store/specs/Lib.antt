@@ -1,6 +1,5 @@
 pub mod Events
-pub mod Kinds
-pub mod Seen
+pub mod EventTypes
 pub mod SeenEvents
 pub mod Stores
 pub mod Table

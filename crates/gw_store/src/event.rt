@@ -1,18 +1,81 @@
-use crate::kind::Kind;
+ghost use Rattle.std.specs.Prelude.{◌≡◌};
+ghost use Rattle.gw_text.specs.model.Objects.{object_kind, object_key};
+ghost use Rattle.gw_store.specs.EventTypes.{event_type_of};
+ghost use Rattle.gw_store.specs.SeenEvents.{seen_object};
+
 use gw_objects::{EndpointSlice, Gateway, GatewayClass, Namespace, ReferenceGrant, Service};
 use gw_route::HttpRoute;
-use gw_text::{Key, Second};
+use gw_text::{Incoming, Key, Kind, Second};
+
+/// The type of a watch event.
+#[derive(Clone, Copy, Debug, PartialEq, Eq)]
+pub enum EventType {
+    Added,
+    Modified,
+    Deleted,
+    Bookmark,
+    Error,
+}
+
+impl EventType {
+    /// The type of this name.
+    #[tactic(auto, unfolding(crate::specs::EventTypes::event_type_of))]
+    pub fn of(name: &str) -> Option<EventType>
+        ensures { result ≡ event_type_of name.now }
+    {
+        match name {
+            "ADDED" => Some(EventType::Added),
+            "MODIFIED" => Some(EventType::Modified),
+            "DELETED" => Some(EventType::Deleted),
+            "BOOKMARK" => Some(EventType::Bookmark),
+            "ERROR" => Some(EventType::Error),
+            _ => None,
+        }
+    }
+}
 
 /// An object of one of the kinds that are read.
 #[derive(Drop)]
 pub enum Object {
-    GatewayClass(GatewayClass),
-    Gateway(Gateway),
-    HttpRoute(HttpRoute),
-    ReferenceGrant(ReferenceGrant),
-    Namespace(Namespace),
-    Service(Service),
-    EndpointSlice(EndpointSlice),
+    GatewayClass(Incoming<GatewayClass>),
+    Gateway(Incoming<Gateway>),
+    HttpRoute(Incoming<HttpRoute>),
+    ReferenceGrant(Incoming<ReferenceGrant>),
+    Namespace(Incoming<Namespace>),
+    Service(Incoming<Service>),
+    EndpointSlice(Incoming<EndpointSlice>),
+}
+
+impl Object {
+    /// The object's kind.
+    pub fn kind(&self) -> Kind
+        ensures { result ≡ object_kind (seen_object self.now) }
+    {
+        match self {
+            Object::GatewayClass(_) => Kind::GatewayClass,
+            Object::Gateway(_) => Kind::Gateway,
+            Object::HttpRoute(_) => Kind::HttpRoute,
+            Object::ReferenceGrant(_) => Kind::ReferenceGrant,
+            Object::Namespace(_) => Kind::Namespace,
+            Object::Service(_) => Kind::Service,
+            Object::EndpointSlice(_) => Kind::EndpointSlice,
+        }
+    }
+
+    /// The object's key.
+    pub fn key(&self) -> &Key
+        ensures { result.now ≡ object_key (seen_object self.now) }
+    {
+        match self {
+            Object::GatewayClass(class) => &class.meta.key,
+            Object::Gateway(gateway) => &gateway.meta.key,
+            Object::HttpRoute(route) => &route.meta.key,
+            Object::ReferenceGrant(grant) => &grant.meta.key,
+            Object::Namespace(namespace) => &namespace.meta.key,
+            Object::Service(service) => &service.meta.key,
+            Object::EndpointSlice(slice) => &slice.meta.key,
+        }
+    }
 }
 
 /// What a line of a watch does to the objects that are held.

@@ -3,15 +3,12 @@
 
 mod event;
 mod keyed;
-mod kind;
 mod read;
 mod table;
-#[cfg(test)]
-mod tests;
 mod world;
 
-pub use event::{Entry, Event, Object, Read};
-pub use kind::Kind;
+pub use event::{Entry, Event, EventType, Object, Read};
+pub use gw_text::Kind;
 pub use read::read_event;
 pub use table::{Keyed, Table};
 pub use world::World;

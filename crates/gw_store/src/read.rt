@@ -2,27 +2,25 @@
 ghost use Rattle.std.specs.Prelude.{◌≡◌, option_map, option_copied};
 ghost use Rattle.serde_json.specs.View.{view};
 ghost use Rattle.gw_json.specs.Words.{Gives};
-ghost use Rattle.gw_json.specs.Fields.{place_of};
+ghost use Rattle.gw_json.specs.Fields.{node_of};
 ghost use Rattle.gw_store.specs.Events as events;
-ghost use Rattle.gw_store.specs.Seen.{seen_kind};
-ghost use Rattle.gw_store.specs.SeenEvents.{seen_object, seen_event, seen_read, seen_written};
+ghost use Rattle.gw_store.specs.SeenEvents.{seen_object, seen_read, seen_written};
 
-use crate::event::{Event, Object, Read};
-use crate::kind::Kind;
+use crate::event::{Event, EventType, Object, Read};
 use gw_json::{Cursor, Refusal, read_value};
 use gw_objects::{
     read_class, read_gateway, read_grant, read_key, read_meta, read_namespace, read_service,
     read_slice,
 };
 use gw_route::read_route;
-use gw_text::Meta;
+use gw_text::{Incoming, Kind, Meta};
 use serde_json::Value;
 use std::alloc::Global;
 
 /// An event as it is written, of whose object nothing but its version and its kind is read yet.
 #[derive(Drop)]
 pub struct Written<'v> {
-    sort: &'v str,
+    sort: EventType,
     version: &'v str,
     kind: &'v str,
     object: Cursor<'v>,
@@ -46,32 +44,17 @@ fn object_in<'v>(value: &'v Value, name: &str) -> Option<&'v Value>
     }
 }
 
-fn is_event_type(text: &str) -> bool
-    ensures { result ≡ events.is_event_type text.now }
-{
-    matches!(
-        text,
-        "ADDED" | "MODIFIED" | "DELETED" | "BOOKMARK" | "ERROR"
-    )
-}
-
-fn is_notice(text: &str) -> bool
-    ensures { result ≡ events.is_notice text.now }
-{
-    text == "BOOKMARK" || text == "ERROR"
-}
-
 // The event that a value is.
 #[tactic(auto, unfolding(crate::specs::Events::written_of))]
 fn read_written<'v>(alloc: Global, value: &'v Value) -> Result<Written<'v>, Refusal>
     ensures { Gives seen_written result (events.written_of (view value.now)) }
 {
-    let Some(sort) = text_in(value, "type") else {
+    let Some(name) = text_in(value, "type") else {
         return Err(Refusal::NotEvent);
     };
-    if !is_event_type(sort) {
+    let Some(sort) = EventType::of(name) else {
         return Err(Refusal::NotEvent);
-    }
+    };
     let Some(object) = object_in(value, "object") else {
         return Err(Refusal::NotEvent);
     };
@@ -91,45 +74,65 @@ fn read_written<'v>(alloc: Global, value: &'v Value) -> Result<Written<'v>, Refu
 }
 
 fn read_body(alloc: Global, kind: Kind, meta: Meta, at: &Cursor<'_>) -> Result<Object, Refusal>
-    ensures { Gives seen_object result (events.body_of (seen_kind kind) meta (place_of at.now)) }
+    ensures { Gives seen_object result (events.body_of kind meta (node_of at.now)) }
 {
     match kind {
-        Kind::GatewayClass => Ok(Object::GatewayClass(read_class(alloc, meta, at)?)),
-        Kind::Gateway => Ok(Object::Gateway(read_gateway(alloc, meta, at)?)),
-        Kind::HttpRoute => Ok(Object::HttpRoute(read_route(alloc, meta, at)?)),
-        Kind::ReferenceGrant => Ok(Object::ReferenceGrant(read_grant(alloc, meta, at)?)),
-        Kind::Namespace => Ok(Object::Namespace(read_namespace(alloc, meta, at)?)),
-        Kind::Service => Ok(Object::Service(read_service(alloc, meta, at)?)),
-        Kind::EndpointSlice => Ok(Object::EndpointSlice(read_slice(alloc, meta, at)?)),
+        Kind::GatewayClass => Ok(Object::GatewayClass(Incoming::new(
+            alloc,
+            read_class(alloc, meta, at)?,
+        )?)),
+        Kind::Gateway => Ok(Object::Gateway(Incoming::new(alloc, read_gateway(alloc, meta, at)?)?)),
+        Kind::HttpRoute => Ok(Object::HttpRoute(Incoming::new(
+            alloc,
+            read_route(alloc, meta, at)?,
+        )?)),
+        Kind::ReferenceGrant => Ok(Object::ReferenceGrant(Incoming::new(
+            alloc,
+            read_grant(alloc, meta, at)?,
+        )?)),
+        Kind::Namespace => Ok(Object::Namespace(Incoming::new(
+            alloc,
+            read_namespace(alloc, meta, at)?,
+        )?)),
+        Kind::Service => Ok(Object::Service(Incoming::new(alloc, read_service(alloc, meta, at)?)?)),
+        Kind::EndpointSlice => Ok(Object::EndpointSlice(Incoming::new(
+            alloc,
+            read_slice(alloc, meta, at)?,
+        )?)),
     }
 }
 
 #[tactic(auto, unfolding(crate::specs::Events::object_of))]
 fn read_object(alloc: Global, kind: Kind, at: &Cursor<'_>) -> Result<Object, Refusal>
-    ensures { Gives seen_object result (events.object_of (seen_kind kind) (place_of at.now)) }
+    ensures { Gives seen_object result (events.object_of kind (node_of at.now)) }
 {
     let meta = read_meta(alloc, kind.name(), at)?;
     read_body(alloc, kind, meta, at)
 }
 
-#[tactic(auto, unfolding(crate::specs::Events::event_of))]
-fn read_change(alloc: Global, kind: Kind, sort: &str, at: &Cursor<'_>) -> Result<Event, Refusal>
-    ensures { Gives seen_event result (events.event_of (seen_kind kind) sort.now (place_of at.now)) }
+fn read_put(alloc: Global, kind: Kind, at: &Cursor<'_>) -> Result<Read, Refusal>
+    ensures { Gives seen_read result (events.read_by EventType.Added kind (node_of at.now)) }
 {
-    if sort == "DELETED" {
-        return Ok(Event::Remove(kind, read_key(alloc, kind.name(), at)?));
-    }
-    Ok(Event::Put(read_object(alloc, kind, at)?))
+    Ok(Read::Change(Event::Put(read_object(alloc, kind, at)?)))
+}
+
+fn read_removal(alloc: Global, kind: Kind, at: &Cursor<'_>) -> Result<Read, Refusal>
+    ensures { Gives seen_read result (events.read_by EventType.Deleted kind (node_of at.now)) }
+{
+    let key = read_key(alloc, kind.name(), at)?;
+    Ok(Read::Change(Event::Remove(kind, key)))
 }
 
 fn read_as(alloc: Global, kind: Option<Kind>, written: &Written<'_>) -> Result<Read, Refusal>
-    ensures { Gives seen_read result (events.read_as (option_map seen_kind kind) (seen_written written.now)) }
+    ensures { Gives seen_read result (events.read_as kind (seen_written written.now)) }
 {
-    match kind {
-        Some(kind) if !is_notice(written.sort) => {
-            Ok(Read::Change(read_change(alloc, kind, written.sort, &written.object)?))
-        }
-        _ => Ok(Read::Skipped),
+    let Some(kind) = kind else {
+        return Ok(Read::Skipped);
+    };
+    match written.sort {
+        EventType::Added | EventType::Modified => read_put(alloc, kind, &written.object),
+        EventType::Deleted => read_removal(alloc, kind, &written.object),
+        EventType::Bookmark | EventType::Error => Ok(Read::Skipped),
     }
 }
 

@@ -1,20 +1,14 @@
 ghost use Rattle.std.specs.Prelude.{◌≡◌, ◌↔◌, ◌<◌, false, nat_le, IsOk, IfErr, OnOk, option_copied};
-ghost use Rattle.gw_text.specs.model.Names.{joined};
-ghost use Rattle.gw_text.specs.model.Held.{held_of, IsInKeyOrder};
+ghost use Rattle.gw_text.specs.model.Stored.{stored_at, IsInKeyOrder};
 ghost use Rattle.gw_text.specs.model.World as worlds;
-ghost use Rattle.gw_store.specs.Seen.{seen_kind};
 ghost use Rattle.gw_store.specs.SeenEvents.{seen_object, seen_event};
 
 use crate::event::{Event, Object};
-use crate::kind::Kind;
 use crate::table::Table;
 use gw_json::Refusal;
-use gw_objects::{
-    EndpointSlice, EndpointSliceFields, Gateway, GatewayClass, GatewayClassFields, GatewayFields,
-    Namespace, NamespaceFields, ReferenceGrant, ReferenceGrantFields, Service, ServiceFields,
-};
-use gw_route::{HttpRoute, HttpRouteFields};
-use gw_text::{Key, NoMemory, Second, Text};
+use gw_objects::{EndpointSlice, Gateway, GatewayClass, Namespace, ReferenceGrant, Service};
+use gw_route::HttpRoute;
+use gw_text::{Key, Kind, NoMemory, Second, Stored, Text};
 use std::alloc::Global;
 use std::marker::Model;
 
@@ -27,13 +21,13 @@ pub const MOST_ROUTES: usize = 16_384;
 /// The objects that are held, kind by kind, and the number of the changes that led here.
 #[derive(Drop)]
 pub struct World {
-    classes: Table<GatewayClassFields>,
-    gateways: Table<GatewayFields>,
-    routes: Table<HttpRouteFields>,
-    grants: Table<ReferenceGrantFields>,
-    namespaces: Table<NamespaceFields>,
-    services: Table<ServiceFields>,
-    slices: Table<EndpointSliceFields>,
+    classes: Table<GatewayClass>,
+    gateways: Table<Gateway>,
+    routes: Table<HttpRoute>,
+    grants: Table<ReferenceGrant>,
+    namespaces: Table<Namespace>,
+    services: Table<Service>,
+    slices: Table<EndpointSlice>,
     changes: u64,
 }
 
@@ -45,13 +39,13 @@ impl Model for World {
 
     ghost view = { λ w. record {
       world = record {
-        classes = w.classes.held;
-        gateways = w.gateways.held;
-        routes = w.routes.held;
-        grants = w.grants.held;
-        namespaces = w.namespaces.held;
-        services = w.services.held;
-        slices = w.slices.held;
+        classes = w.classes.stored;
+        gateways = w.gateways.stored;
+        routes = w.routes.stored;
+        grants = w.grants.stored;
+        namespaces = w.namespaces.stored;
+        services = w.services.stored;
+        slices = w.slices.stored;
         changes = w.changes;
       };
       spare = min w.classes.spare (min w.gateways.spare (min w.routes.spare (min w.grants.spare (min w.namespaces.spare (min w.services.spare w.slices.spare)))));
@@ -92,35 +86,38 @@ impl World {
         ensures { result ≡ worlds.is_one_too_many self.now.world (seen_event event.now) }
     {
         match event {
-            Event::Put(object) => !self.is_held(object) && self.has_no_room(object),
+            Event::Put(object) => {
+                let kind = object.kind();
+                !self.holds(kind, object.key()) && self.has_no_room(kind)
+            }
             Event::Remove(_, _) => false,
         }
     }
 
-    fn has_no_room(&self, object: &Object) -> bool
-        ensures { result ≡ worlds.has_no_room self.now.world (seen_object object.now) }
+    fn has_no_room(&self, kind: Kind) -> bool
+        ensures { result ≡ worlds.has_no_room self.now.world kind }
     {
-        self.is_crowded()
-            || (matches!(object, Object::HttpRoute(_)) && MOST_ROUTES <= self.routes.len())
+        self.has_most_objects()
+            || (matches!(kind, Kind::HttpRoute) && MOST_ROUTES <= self.routes.len())
     }
 
-    // Whether something is held under the object's kind and key.
-    fn is_held(&self, object: &Object) -> bool
-        ensures { result ≡ worlds.is_held self.now.world (seen_object object.now) }
+    /// Whether an object of this kind and key is held.
+    pub fn holds(&self, kind: Kind, key: &Key) -> bool
+        ensures { result ≡ worlds.is_held self.now.world kind key.now }
     {
-        match object {
-            Object::GatewayClass(class) => self.classes.holds(&class.meta.key),
-            Object::Gateway(gateway) => self.gateways.holds(&gateway.meta.key),
-            Object::HttpRoute(route) => self.routes.holds(&route.meta.key),
-            Object::ReferenceGrant(grant) => self.grants.holds(&grant.meta.key),
-            Object::Namespace(namespace) => self.namespaces.holds(&namespace.meta.key),
-            Object::Service(service) => self.services.holds(&service.meta.key),
-            Object::EndpointSlice(slice) => self.slices.holds(&slice.meta.key),
+        match kind {
+            Kind::GatewayClass => self.classes.holds(key),
+            Kind::Gateway => self.gateways.holds(key),
+            Kind::HttpRoute => self.routes.holds(key),
+            Kind::ReferenceGrant => self.grants.holds(key),
+            Kind::Namespace => self.namespaces.holds(key),
+            Kind::Service => self.services.holds(key),
+            Kind::EndpointSlice => self.slices.holds(key),
         }
     }
 
     // Whether at least as many objects are held as can be.
-    fn is_crowded(&self) -> bool
+    fn has_most_objects(&self) -> bool
         ensures { result ≡ nat_le worlds.most_objects (worlds.object_count self.now.world) }
     {
         let objects = self
@@ -149,7 +146,7 @@ impl World {
         self.slices.reserve()
     }
 
-    /// Does what the event says. It takes no memory.
+    /// Does what the event says.
     #[tactic(auto, unfolding(gw_text::specs::model::World::is_full))]
     pub fn put(&mut self, event: Event, at: Second)
         requires room { 0 < self.old.spare }
@@ -179,7 +176,7 @@ impl World {
     }
 
     fn remove(&mut self, kind: Kind, key: &Key)
-        ensures { self.new.world ≡ worlds.remove_key self.old.world (seen_kind kind) (joined key.now) }
+        ensures { self.new.world ≡ worlds.remove_key self.old.world kind key.now }
     {
         match kind {
             Kind::GatewayClass => self.classes.remove(key),
@@ -200,42 +197,42 @@ impl World {
     }
 
     /// The GatewayClass of this key.
-    pub fn class(&self, key: &Key) -> Option<&GatewayClass>
-        ensures { option_copied result ≡ held_of worlds.class_key (joined key.now) self.now.world.classes }
+    pub fn class(&self, key: &Key) -> Option<&Stored<GatewayClass>>
+        ensures { option_copied result ≡ stored_at worlds.class_key key.now self.now.world.classes }
     {
         self.classes.get(key)
     }
 
     /// The Gateway of this key.
-    pub fn gateway(&self, key: &Key) -> Option<&Gateway>
-        ensures { option_copied result ≡ held_of worlds.gateway_key (joined key.now) self.now.world.gateways }
+    pub fn gateway(&self, key: &Key) -> Option<&Stored<Gateway>>
+        ensures { option_copied result ≡ stored_at worlds.gateway_key key.now self.now.world.gateways }
     {
         self.gateways.get(key)
     }
 
     /// The HTTPRoute of this key.
-    pub fn route(&self, key: &Key) -> Option<&HttpRoute>
-        ensures { option_copied result ≡ held_of worlds.route_key (joined key.now) self.now.world.routes }
+    pub fn route(&self, key: &Key) -> Option<&Stored<HttpRoute>>
+        ensures { option_copied result ≡ stored_at worlds.route_key key.now self.now.world.routes }
     {
         self.routes.get(key)
     }
 
     /// The Service of this key.
-    pub fn service(&self, key: &Key) -> Option<&Service>
-        ensures { option_copied result ≡ held_of worlds.service_key (joined key.now) self.now.world.services }
+    pub fn service(&self, key: &Key) -> Option<&Stored<Service>>
+        ensures { option_copied result ≡ stored_at worlds.service_key key.now self.now.world.services }
     {
         self.services.get(key)
     }
 
     /// The Namespace of this key.
-    pub fn namespace(&self, key: &Key) -> Option<&Namespace>
-        ensures { option_copied result ≡ held_of worlds.namespace_key (joined key.now) self.now.world.namespaces }
+    pub fn namespace(&self, key: &Key) -> Option<&Stored<Namespace>>
+        ensures { option_copied result ≡ stored_at worlds.namespace_key key.now self.now.world.namespaces }
     {
         self.namespaces.get(key)
     }
 
     /// All GatewayClasses, in key order.
-    pub fn classes(&self) -> &[GatewayClass]
+    pub fn classes(&self) -> &[Stored<GatewayClass>]
         ensures value { result.now ≡ self.now.world.classes }
         ensures order { IsInKeyOrder worlds.class_key result.now }
     {
@@ -243,7 +240,7 @@ impl World {
     }
 
     /// All Gateways, in key order.
-    pub fn gateways(&self) -> &[Gateway]
+    pub fn gateways(&self) -> &[Stored<Gateway>]
         ensures value { result.now ≡ self.now.world.gateways }
         ensures order { IsInKeyOrder worlds.gateway_key result.now }
     {
@@ -251,7 +248,7 @@ impl World {
     }
 
     /// All HTTPRoutes, in key order.
-    pub fn routes(&self) -> &[HttpRoute]
+    pub fn routes(&self) -> &[Stored<HttpRoute>]
         ensures value { result.now ≡ self.now.world.routes }
         ensures order { IsInKeyOrder worlds.route_key result.now }
     {
@@ -259,7 +256,7 @@ impl World {
     }
 
     /// All Namespaces, in key order.
-    pub fn namespaces(&self) -> &[Namespace]
+    pub fn namespaces(&self) -> &[Stored<Namespace>]
         ensures value { result.now ≡ self.now.world.namespaces }
         ensures order { IsInKeyOrder worlds.namespace_key result.now }
     {
@@ -267,7 +264,7 @@ impl World {
     }
 
     /// All ReferenceGrants, in key order.
-    pub fn grants(&self) -> &[ReferenceGrant]
+    pub fn grants(&self) -> &[Stored<ReferenceGrant>]
         ensures value { result.now ≡ self.now.world.grants }
         ensures order { IsInKeyOrder worlds.grant_key result.now }
     {
@@ -275,7 +272,7 @@ impl World {
     }
 
     /// All Services, in key order.
-    pub fn services(&self) -> &[Service]
+    pub fn services(&self) -> &[Stored<Service>]
         ensures value { result.now ≡ self.now.world.services }
         ensures order { IsInKeyOrder worlds.service_key result.now }
     {
@@ -283,7 +280,7 @@ impl World {
     }
 
     /// All EndpointSlices, in key order.
-    pub fn slices(&self) -> &[EndpointSlice]
+    pub fn slices(&self) -> &[Stored<EndpointSlice>]
         ensures value { result.now ≡ self.now.world.slices }
         ensures order { IsInKeyOrder worlds.slice_key result.now }
     {
@@ -291,16 +288,16 @@ impl World {
     }
 
     /// The ReferenceGrants of a namespace, in key order.
-    pub fn grants_in(&self, namespace: &Text) -> &[ReferenceGrant]
-        ensures value { result.now ≡ worlds.in_namespace worlds.grant_key namespace.now self.now.world.grants }
+    pub fn grants_in(&self, namespace: &Text) -> &[Stored<ReferenceGrant>]
+        ensures value { result.now ≡ worlds.grants_in self.now.world namespace.now }
         ensures order { IsInKeyOrder worlds.grant_key result.now }
     {
         self.grants.in_namespace(namespace)
     }
 
     /// The EndpointSlices of a namespace, in key order.
-    pub fn slices_in(&self, namespace: &Text) -> &[EndpointSlice]
-        ensures value { result.now ≡ worlds.in_namespace worlds.slice_key namespace.now self.now.world.slices }
+    pub fn slices_in(&self, namespace: &Text) -> &[Stored<EndpointSlice>]
+        ensures value { result.now ≡ worlds.slices_in self.now.world namespace.now }
         ensures order { IsInKeyOrder worlds.slice_key result.now }
     {
         self.slices.in_namespace(namespace)

@@ -1,7 +1,6 @@
-pub mod Parts
-pub mod Ports
+pub mod Decimals
+pub mod Keys
 pub mod Sockets
 pub mod Printing
 pub mod Calendar
 pub mod Moments
-pub mod Beginnings

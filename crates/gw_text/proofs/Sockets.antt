@@ -1,27 +1,28 @@
--- The text of a socket names the socket.
-use Rattle.std.proofs.Common.{◌≡◌, ℕ, ◌+◌, ◌-◌, ◌*◌, ◌/◌, ◌%◌, ◌^◌, ◌<◌, ◌≤◌, ◌&&◌, ◌||◌, ◌==◌, Bool, true, false, not, List, [], ◌∷◌, ◌++◌, length, get_or, inl, inr, refl, ap, ◌∙◌, append_assoc, arith, nat_le, codes, Some}
+-- The text of an address and of a socket names it, and std parses the same.
+use Rattle.std.proofs.Common.{◌≡◌, ℕ, ◌^◌, ◌<◌, Bool, true, false, not, List, [], ◌∷◌, ◌++◌, length, refl, sym, subst, ap, ◌∙◌, append_assoc, arith, lit<, codes, Option, Some, None, Result, Ok, Err}
 use Rattle.std.specs.Char.{is_ascii_digit}
 use Rattle.std.specs.Fmt.{decimal}
-use Rattle.std.specs.List.{list_all, slice_split, position_or_len, before_first, after_first}
-use Rattle.std.specs.Str.Parse.{digits_value}
+use Rattle.std.specs.List.{list_all, slice_split, position_or_len, before_first, after_first, join_with_byte}
+use Rattle.std.specs.Result.{result_ok}
+use Rattle.std.specs.Net.Addr.{ipv4_octets}
+use Rattle.std.specs.Net.Grammar.{Parses, IsIpv4Text}
+use Rattle.std.specs.Net.Text.{dotted_text}
+use Rattle.std.specs.declared.net.ipv4_addr.Ipv4Addr.{Ipv4Addr}
 use Rattle.std.proofs.Math.Seq.{take-append_seam, drop-append-add}
-use Rattle.std.proofs.lemmas.Bool.{cases_lt}
 use Rattle.std.proofs.lemmas.Bool.Decides.{nat_tests}
-use Rattle.std.proofs.lemmas.Fmt.{decimal_digit, decimal_step, digits_decimal, digits_value-decimal, first_decimal}
+use Rattle.std.proofs.lemmas.Fmt.{digits_decimal}
 use Rattle.std.proofs.lemmas.List.Folds.{list_all-append}
-use Rattle.std.proofs.lemmas.List.Splits.{slice_split_at, slice_split_none}
+use Rattle.std.proofs.lemmas.List.Splits.{slice_split_at, slice_split_none, join_with_byte-slice_split}
 use Rattle.std.proofs.lemmas.List.Sums.{AllPass-from_list_all}
-use Rattle.gw_text.specs.model.Addresses.{Socket, is_leading, octet_of, written_in, ipv4_of, is_decimal, is_colon, port_of, socket_of, address_text, socket_text}
+use Rattle.std.proofs.lemmas.Option.{same_Some}
+use Rattle.gw_text.specs.model.Addresses.{Socket, octet_of, written_in, ipv4_of, is_colon, port_of, socket_of, address_text, socket_text}
+use Rattle.gw_text.specs.model.Chains.{◌>>=◌}
 use Rattle.gw_text.specs.model.Forms.{is_dot}
-use Rattle.gw_text.proofs.Ports.{digits}
+use Rattle.gw_text.proofs.Decimals.{digits, both, number_up_to-decimal, decimal-number_up_to}
 
 -- A text in which no byte passes.
 abbrev pub lacks : (ℕ → Bool) → List ℕ → Bool
 lacks p = list_all (λ b. not (p b))
-
-both : (a b : Bool) → (a && b) ≡ true → (a ≡ true) × (b ≡ true)
-both true b e = (refl, e)
-both false b e = cc
 
 not_true : (b : Bool) → not b ≡ true → b ≡ false
 not_true true e = cc
@@ -60,65 +61,6 @@ split-separator p xs y ys h e = slice_split_at p xs y ys (λ k d lt. not_true _ 
 split-none : (p : ℕ → Bool) (xs : List ℕ) → lacks p xs ≡ true → slice_split p xs ≡ xs ∷ []
 split-none p xs h = slice_split_none p xs (λ k d lt. not_true _ (AllPass-from_list_all (λ b. not (p b)) xs h k d lt))
 
-decimal_two : (n : ℕ) → 10 ≤ n → n < 100 → decimal n ≡ (48 + n / 10) ∷ (48 + n % 10) ∷ []
-decimal_two n low high = decimal_step n low (omega arith) ∙ ap (λ (ds : List ℕ). ds ++ (48 + n % 10) ∷ []) (decimal_digit (n / 10) (omega arith))
-
-decimal_three : (n : ℕ) → 100 ≤ n → n < 1000 → decimal n ≡ (48 + n / 10 / 10) ∷ (48 + n / 10 % 10) ∷ (48 + n % 10) ∷ []
-decimal_three n low high = decimal_step n (omega arith) (omega arith) ∙ ap (λ (ds : List ℕ). ds ++ (48 + n % 10) ∷ []) (decimal_two (n / 10) (omega arith) (omega arith))
-
-is_digit : (n : ℕ) → n < 10 → is_ascii_digit (48 + n) ≡ true
-is_digit n h = grind (arith, nat_tests)
-
-leads : (n : ℕ) → 0 < n → n < 10 → is_leading (48 + n) ≡ true
-leads n some h = grind (arith, nat_tests)
-
-octet_of-one : (n : ℕ) → n < 10 → octet_of ((48 + n) ∷ []) ≡ Some n
-octet_of-one n h = rw (is_digit n h) (ap Some (omega arith))
-
-octet_of-two : (n : ℕ) → 10 ≤ n → n < 100 → octet_of ((48 + n / 10) ∷ (48 + n % 10) ∷ []) ≡ Some n
-octet_of-two n low high = rw (leads (n / 10) (omega arith) (omega arith), is_digit (n % 10) (omega arith)) (ap Some (omega arith))
-
-octet_of-three : (n : ℕ) → 100 ≤ n → n < 2 ^ 8 → octet_of ((48 + n / 10 / 10) ∷ (48 + n / 10 % 10) ∷ (48 + n % 10) ∷ []) ≡ Some n
-octet_of-three n low high =
-    let value : 100 * (48 + n / 10 / 10 - 48) + 10 * (48 + n / 10 % 10 - 48) + (48 + n % 10 - 48) ≡ n = omega arith in
-    let fits : nat_le n 255 ≡ true = grind (arith, nat_tests) in
-    rw (leads (n / 10 / 10) (omega arith) (omega arith), is_digit (n / 10 % 10) (omega arith), is_digit (n % 10) (omega arith), value, fits)
-
-octet_of-decimal : (n : ℕ) → n < 2 ^ 8 → octet_of (decimal n) ≡ Some n
-octet_of-decimal n h =
-    elim (cases_lt n 10) [
-      | inl one ↦ rw (decimal_digit n one) (octet_of-one n one)
-      | inr more ↦ elim (cases_lt n 100) [
-        | inl two ↦ rw (decimal_two n more two) (octet_of-two n more two)
-        | inr three ↦ rw (decimal_three n three (omega arith)) (octet_of-three n three h)
-      ]
-    ]
-
-or_true : (b : Bool) → (b || true) ≡ true
-or_true true = refl
-or_true false = refl
-
-is_decimal-above : (t : List ℕ) → list_all is_ascii_digit t ≡ true → 48 < get_or t 0 0 → is_decimal t ≡ true
-is_decimal-above [] all above = absurd (omega (arith, above))
-is_decimal-above (b ∷ t) all above =
-    let k = both (is_ascii_digit b) (list_all is_ascii_digit t) all in
-    let other : (b == 48) ≡ false = grind (arith, nat_tests, above) in
-    rw (k.0, k.1, other) (or_true _)
-
-is_decimal-decimal : (n : ℕ) → n < 2 ^ 16 → is_decimal (decimal n) ≡ true
-is_decimal-decimal n h =
-    elim (cases_lt n 10) [
-      | inl one ↦ rw (decimal_digit n one, is_digit n one)
-      | inr more ↦ is_decimal-above (decimal n) (digits_decimal digits n (omega arith)) (first_decimal n (omega arith) (omega arith))
-    ]
-
-port_of-decimal : (n : ℕ) → n < 2 ^ 16 → port_of (decimal n) ≡ Some n
-unfolding port_of
-port_of-decimal n h =
-    let value : digits_value 10 (decimal n) ≡ n = digits_value-decimal digits n (omega arith) in
-    let fits : nat_le n 65535 ≡ true = grind (arith, nat_tests) in
-    rw (is_decimal-decimal n h, value, fits)
-
 -- Each part of the socket is in its type's range.
 pub record IsInRange (s : Socket) : Type 0 where
   pub a : s.a < 2 ^ 8
@@ -130,19 +72,72 @@ pub record IsInRange (s : Socket) : Type 0 where
 octet_lacks : (p : ℕ → Bool) → ((b : ℕ) → is_ascii_digit b ≡ true → p b ≡ false) → (n : ℕ) → n < 2 ^ 8 → lacks p (decimal n) ≡ true
 octet_lacks p other n h = decimal_lacks p other n (omega arith)
 
-nested : (s : Socket) → address_text s ≡ decimal s.a ++ 46 ∷ (decimal s.b ++ 46 ∷ (decimal s.c ++ 46 ∷ decimal s.d))
-nested s = simp append_assoc
+nested : (a b c d : ℕ) → dotted_text a b c d ≡ decimal a ++ 46 ∷ (decimal b ++ 46 ∷ (decimal c ++ 46 ∷ decimal d))
+nested a b c d = simp append_assoc
 
-ipv4_of-address_text : (s : Socket) → IsInRange s → ipv4_of (address_text s) ≡ Some (record { a = s.a; b = s.b; c = s.c; d = s.d })
+octet_of-decimal : (n : ℕ) → n < 2 ^ 8 → octet_of (decimal n) ≡ Some n
+octet_of-decimal n h = number_up_to-decimal 255 n (lit< tt) (omega arith)
+
+ipv4_of-dotted_text : (a b c d : ℕ) → (a < 2 ^ 8) × (b < 2 ^ 8) × (c < 2 ^ 8) × (d < 2 ^ 8) → ipv4_of (dotted_text a b c d) ≡ Some (record { octets = a ∷ b ∷ c ∷ d ∷ [] })
 unfolding ipv4_of
-ipv4_of-address_text s h =
-    let parts : slice_split is_dot (address_text s) ≡ decimal s.a ∷ decimal s.b ∷ decimal s.c ∷ decimal s.d ∷ [] =
-    ap (slice_split is_dot) (nested s)
-    ∙ split-separator is_dot _ 46 _ (octet_lacks is_dot digit_no_dot s.a h.a) refl
-    ∙ ap (λ (ps : List (List ℕ)). decimal s.a ∷ ps) (split-separator is_dot _ 46 _ (octet_lacks is_dot digit_no_dot s.b h.b) refl)
-    ∙ ap (λ (ps : List (List ℕ)). decimal s.a ∷ decimal s.b ∷ ps) (split-separator is_dot _ 46 _ (octet_lacks is_dot digit_no_dot s.c h.c) refl)
-    ∙ ap (λ (ps : List (List ℕ)). decimal s.a ∷ decimal s.b ∷ decimal s.c ∷ ps) (split-none is_dot _ (octet_lacks is_dot digit_no_dot s.d h.d)) in
-    ap written_in parts ∙ rw (octet_of-decimal s.a h.a, octet_of-decimal s.b h.b, octet_of-decimal s.c h.c, octet_of-decimal s.d h.d)
+ipv4_of-dotted_text a b c d h =
+    let parts : slice_split is_dot (dotted_text a b c d) ≡ decimal a ∷ decimal b ∷ decimal c ∷ decimal d ∷ [] =
+    ap (slice_split is_dot) (nested a b c d)
+    ∙ split-separator is_dot _ 46 _ (octet_lacks is_dot digit_no_dot a h.0) refl
+    ∙ ap (λ (ps : List (List ℕ)). decimal a ∷ ps) (split-separator is_dot _ 46 _ (octet_lacks is_dot digit_no_dot b h.1) refl)
+    ∙ ap (λ (ps : List (List ℕ)). decimal a ∷ decimal b ∷ ps) (split-separator is_dot _ 46 _ (octet_lacks is_dot digit_no_dot c h.2) refl)
+    ∙ ap (λ (ps : List (List ℕ)). decimal a ∷ decimal b ∷ decimal c ∷ ps) (split-none is_dot _ (octet_lacks is_dot digit_no_dot d h.3)) in
+    ap written_in parts ∙ rw (octet_of-decimal a h.0, octet_of-decimal b h.1, octet_of-decimal c h.2, octet_of-decimal d h.3)
+
+-- A text that writes an address is the address's,
+ipv4_of-text : (text : List ℕ) (address : Ipv4Addr) → IsIpv4Text text address → ipv4_of text ≡ Some address
+ipv4_of-text text address h = rw h.spelled (ipv4_of-dotted_text h.a h.b h.c h.d h.fit ∙ λ i. Some (record { octets = sym h.value i }))
+
+then : {A B P : Type 0} (o : Option A) (f : A → Option B) (y : B) → (o >>= f) ≡ Some y → ((x : A) → o ≡ Some x → f x ≡ Some y → P) → P
+then None f y e k = cc
+then (Some x) f y e k = k x refl e
+
+octet_spelled : (n : ℕ) (t : List ℕ) → octet_of t ≡ Some n → (n < 2 ^ 8) × (t ≡ decimal n)
+octet_spelled n t e = let k = decimal-number_up_to 255 n t (lit< tt) e in (omega arith, k.1)
+
+written_text : (parts : List (List ℕ)) (address : Ipv4Addr) → written_in parts ≡ Some address → IsIpv4Text (join_with_byte 46 parts) address
+written_text [] address e = cc
+written_text (a ∷ []) address e = cc
+written_text (a ∷ b ∷ []) address e = cc
+written_text (a ∷ b ∷ c ∷ []) address e = cc
+written_text (a ∷ b ∷ c ∷ d ∷ []) address e =
+    then _ _ address e λ n₁ e₁ rest₁.
+    then _ _ address rest₁ λ n₂ e₂ rest₂.
+    then _ _ address rest₂ λ n₃ e₃ rest₃.
+    then _ _ address rest₃ λ n₄ e₄ rest₄.
+    let one = octet_spelled n₁ a e₁ in
+    let two = octet_spelled n₂ b e₂ in
+    let three = octet_spelled n₃ c e₃ in
+    let four = octet_spelled n₄ d e₄ in
+    record {
+      a = n₁;
+      b = n₂;
+      c = n₃;
+      d = n₄;
+      fit = (one.0, two.0, three.0, four.0);
+      value = sym (ap ipv4_octets (same_Some _ _ rest₄));
+      spelled = rw (one.1, two.1, three.1, four.1) (sym (nested n₁ n₂ n₃ n₄));
+    }
+written_text (a ∷ b ∷ c ∷ d ∷ f ∷ parts) address e = cc
+
+-- and no other.
+text-ipv4_of : (text : List ℕ) (address : Ipv4Addr) → ipv4_of text ≡ Some address → IsIpv4Text text address
+unfolding ipv4_of
+text-ipv4_of text address e = subst (λ (t : List ℕ). IsIpv4Text t address) (join_with_byte-slice_split 46 text) (written_text (slice_split is_dot text) address e)
+
+-- What std parses is the address that the text writes.
+pub ipv4_parsed : {E : Type 0} (text : List ℕ) (r : Result Ipv4Addr E) → Parses IsIpv4Text text r → result_ok r ≡ ipv4_of text
+ipv4_parsed text (Ok address) h = sym (ipv4_of-text text address h)
+ipv4_parsed text (Err e) h = none (ipv4_of text) refl
+  where
+    none : (o : Option Ipv4Addr) → ipv4_of text ≡ o → None ≡ ipv4_of text
+    none None is = sym is
+    none (Some address) is = absurd (h address (text-ipv4_of text address is))
 
 lacks-append : (p : ℕ → Bool) (xs ys : List ℕ) → lacks p xs ≡ true → lacks p ys ≡ true → lacks p (xs ++ ys) ≡ true
 lacks-append p xs ys h k = rw (list_all-append (λ b. not (p b)) xs ys, h, k)
@@ -155,7 +150,7 @@ address_lacks s h =
     let bcd = decimal s.b ++ 46 ∷ cd in
     let two : lacks is_colon cd ≡ true = lacks-append is_colon (decimal s.c) (46 ∷ d) (k s.c h.c) (k s.d h.d) in
     let three : lacks is_colon bcd ≡ true = lacks-append is_colon (decimal s.b) (46 ∷ cd) (k s.b h.b) two in
-    rw (nested s) (lacks-append is_colon (decimal s.a) (46 ∷ bcd) (k s.a h.a) three)
+    rw (nested s.a s.b s.c s.d) (lacks-append is_colon (decimal s.a) (46 ∷ bcd) (k s.a h.a) three)
 
 pub socket_of-socket_text : (s : Socket) → IsInRange s → socket_of (socket_text s) ≡ Some s
 unfolding socket_of
@@ -163,4 +158,5 @@ socket_of-socket_text s h =
     let cut : socket_text s ≡ address_text s ++ 58 ∷ decimal s.port = append_assoc (address_text s) (codes ":") (decimal s.port) in
     let before : before_first is_colon (socket_text s) ≡ address_text s = ap (before_first is_colon) cut ∙ before-separator is_colon (address_text s) 58 (decimal s.port) (address_lacks s h) refl in
     let after : after_first is_colon (socket_text s) ≡ decimal s.port = ap (after_first is_colon) cut ∙ after-separator is_colon (address_text s) 58 (decimal s.port) (address_lacks s h) refl in
-    rw (before, after, port_of-decimal s.port h.port, ipv4_of-address_text s h)
+    let port : port_of (decimal s.port) ≡ Some s.port = number_up_to-decimal 65535 s.port (lit< tt) (omega (arith, h.port)) in
+    rw (before, after, port, ipv4_of-dotted_text s.a s.b s.c s.d (h.a, h.b, h.c, h.d))

@@ -1,5 +1,4 @@
 pub mod model
-pub mod Opening
+pub mod DoorFaults
 pub mod Parsing
-pub mod Parts
 pub mod Civil

@@ -9,8 +9,8 @@ pub mod Forms
 pub mod GatewayClasses
 pub mod Gateways
 pub mod Grants
-pub mod Held
 pub mod Hostnames
+pub mod Kinds
 pub mod Listeners
 pub mod Matches
 pub mod Meta
@@ -26,4 +26,6 @@ pub mod Selectors
 pub mod Services
 pub mod Slices
 pub mod Statuses
+pub mod Stored
+pub mod Types
 pub mod World

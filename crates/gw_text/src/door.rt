@@ -54,17 +54,17 @@ impl Door {
     }
 
     /// Whether both are of one Gateway, and their addresses differ.
-    pub(crate) fn is_elsewhere(&self, other: &Door) -> bool
-        ensures { result ≡ doors.is_elsewhere self.now other.now }
+    pub(crate) fn has_another_address(&self, other: &Door) -> bool
+        ensures { result ≡ doors.have_two_addresses self.now other.now }
     {
-        self.gateway.is(&other.gateway) && !self.at.same_address(&other.at)
+        self.gateway == other.gateway && !self.at.same_address(&other.at)
     }
 
     /// Whether both are of one Gateway and one listener port, or have one socket.
-    pub(crate) fn is_again(&self, other: &Door) -> bool
-        ensures { result ≡ doors.is_again self.now other.now }
+    pub(crate) fn is_the_same_door(&self, other: &Door) -> bool
+        ensures { result ≡ doors.are_one_door self.now other.now }
     {
-        self.gateway.is(&other.gateway) && self.port == other.port || self.at.same_socket(&other.at)
+        self.gateway == other.gateway && self.port == other.port || self.at.same_socket(&other.at)
     }
 }
 

@@ -1,7 +1,7 @@
 ghost use Rattle.std.specs.Prelude.{◌≡◌, [], None, IfOk, IfErr, OnOk};
 ghost use Rattle.std.specs.List.{list_any};
 ghost use Rattle.std.specs.Option.{option_copied};
-ghost use Rattle.gw_text.specs.Opening.{seen};
+ghost use Rattle.gw_text.specs.DoorFaults.{seen};
 ghost use Rattle.gw_text.specs.declared.doors.DoorFault.TheVariants.{NoMemory as Starved};
 ghost use Rattle.gw_text.specs.model.Doors as model;
 
@@ -59,7 +59,7 @@ impl Model for Doors {
 }
 
 impl Doors {
-    /// The doors, if they break no rule. It takes no memory.
+    /// The doors, if they break no rule.
     #[tactic(auto, unfolding(crate::specs::model::Doors::door_fault))]
     pub fn new(_alloc: Global, doors: Vec<Door>) -> Result<Doors, DoorFault>
         ensures value { IfOk result (λ taken. taken ≡ doors.items) }
@@ -100,7 +100,7 @@ impl Doors {
     pub fn first(&self, gateway: &Key) -> Option<&Door>
         ensures { option_copied result ≡ model.first_door gateway.now self.now }
     {
-        self.doors.iter().find(|door| door.gateway.is(gateway))
+        self.doors.iter().find(|door| door.gateway == *gateway)
     }
 
     /// Whether a door of the Gateway is for this port of its listeners.
@@ -109,38 +109,38 @@ impl Doors {
     {
         self.doors
             .iter()
-            .any(|door| door.gateway.is(gateway) && door.port == port)
+            .any(|door| door.gateway == *gateway && door.port == port)
     }
 }
 
-fn is_any_elsewhere(door: &Door, others: &[Door]) -> bool
-    ensures { result ≡ list_any (model.is_elsewhere door.now) others.now }
+fn has_any_another_address(door: &Door, others: &[Door]) -> bool
+    ensures { result ≡ list_any (model.have_two_addresses door.now) others.now }
 {
-    others.iter().any(|other| door.is_elsewhere(other))
+    others.iter().any(|other| door.has_another_address(other))
 }
 
 fn has_two_addresses(doors: &[Door]) -> bool
-    ensures { result ≡ model.some_two model.is_elsewhere doors.now }
+    ensures { result ≡ model.some_two model.have_two_addresses doors.now }
 {
     'doors: for (i, door) in doors.iter().enumerate() {
-        if is_any_elsewhere(door, &doors[i + 1..]) {
+        if has_any_another_address(door, &doors[i + 1..]) {
             return true;
         }
     }
     false
 }
 
-fn is_any_again(door: &Door, others: &[Door]) -> bool
-    ensures { result ≡ list_any (model.is_again door.now) others.now }
+fn is_any_the_same_door(door: &Door, others: &[Door]) -> bool
+    ensures { result ≡ list_any (model.are_one_door door.now) others.now }
 {
-    others.iter().any(|other| door.is_again(other))
+    others.iter().any(|other| door.is_the_same_door(other))
 }
 
 fn has_a_door_twice(doors: &[Door]) -> bool
-    ensures { result ≡ model.some_two model.is_again doors.now }
+    ensures { result ≡ model.some_two model.are_one_door doors.now }
 {
     'doors: for (i, door) in doors.iter().enumerate() {
-        if is_any_again(door, &doors[i + 1..]) {
+        if is_any_the_same_door(door, &doors[i + 1..]) {
             return true;
         }
     }

@@ -1,4 +1,4 @@
-ghost use Rattle.std.specs.Prelude.{◌≡◌, ◌||◌, ℕ, List, drop, Some, None, is_some, IfSome, IsTrue, if◌then◌else◌};
+ghost use Rattle.std.specs.Prelude.{◌≡◌, ◌||◌, ℕ, List, [], drop, Some, None, is_some, IfOk, IfSome, IsTrue, if◌then◌else◌};
 ghost use Rattle.std.specs.List.{list_all, slice_split};
 ghost use Rattle.gw_text.specs.Parsing.{Parses};
 ghost use Rattle.gw_text.specs.declared.name.TextFault.TheVariants.{NoMemory as Starved};
@@ -7,6 +7,7 @@ ghost use Rattle.gw_text.specs.model.Forms as forms;
 use crate::text::Text;
 use std::alloc::{AllocError, AllocFailed, Global};
 use std::marker::Model;
+use std::ops::Deref;
 
 /// Why a text gave no value.
 #[derive(Clone, Copy, Debug, PartialEq, Eq)]
@@ -63,6 +64,102 @@ impl Name {
         ensures value { result.now ≡ self.now }
         ensures form { IsTrue (forms.is_name self.now) }
     {
+        &self.text
+    }
+
+    /// The text alone, without a copy.
+    pub fn into_text(self) -> Text
+        ensures value { result ≡ self }
+        ensures form { IsTrue (forms.is_name self) }
+    {
+        self.text
+    }
+
+    /// The same name once more.
+    pub fn copy(&self, alloc: Global) -> Result<Self, AllocError>
+        ensures { IfOk result (λ name. name ≡ self.now) }
+    {
+        let text = self.text.copy(alloc)?;
+        Ok(Name { text })
+    }
+}
+
+impl Deref for Name {
+    type Target = Text;
+
+    ghost deref_gives = { λ x y. y ≡ x };
+
+    fn deref(&self) -> &Text {
+        &self.text
+    }
+}
+
+/// The name of a namespace, or nothing, for objects of kinds without one.
+#[derive(Drop)]
+pub struct NamespaceName {
+    text: Text,
+}
+
+impl Model for NamespaceName {
+    ghost Value = { List ℕ };
+
+    ghost view = { λ n. n.text };
+
+    ghost invariant = { λ n. IsTrue (forms.is_namespace_or_none n.text) };
+}
+
+impl NamespaceName {
+    /// The name, if the text is the name of a namespace.
+    pub fn parse(alloc: Global, s: &str) -> Result<Self, TextFault>
+        ensures { Parses (forms.namespace_of s.now) result }
+    {
+        if !is_namespace(s.as_bytes()) {
+            return Err(TextFault::Bad);
+        }
+        let text = Text::of(alloc, s)?;
+        Ok(NamespaceName { text })
+    }
+
+    /// No namespace.
+    pub fn none(alloc: Global) -> Self
+        ensures { result ≡ [] }
+    {
+        NamespaceName {
+            text: Text::from_vec(Vec::new(alloc)),
+        }
+    }
+
+    // The namespace that a text is. No public call makes one from an unread text.
+    pub(crate) fn of_text(text: Text) -> Self
+        requires { IsTrue (forms.is_namespace_or_none text) }
+        ensures { result ≡ text }
+    {
+        NamespaceName { text }
+    }
+
+    /// The text alone, without a copy.
+    pub fn into_text(self) -> Text
+        ensures value { result ≡ self }
+        ensures form { IsTrue (forms.is_namespace_or_none self) }
+    {
+        self.text
+    }
+
+    /// The same name once more.
+    pub fn copy(&self, alloc: Global) -> Result<Self, AllocError>
+        ensures { IfOk result (λ name. name ≡ self.now) }
+    {
+        let text = self.text.copy(alloc)?;
+        Ok(NamespaceName { text })
+    }
+}
+
+impl Deref for NamespaceName {
+    type Target = Text;
+
+    ghost deref_gives = { λ x y. y ≡ x };
+
+    fn deref(&self) -> &Text {
         &self.text
     }
 }

@@ -5,11 +5,12 @@ ghost use Rattle.gw_text.specs.Parsing.{Parses};
 ghost use Rattle.gw_text.specs.model.Addresses as addresses;
 ghost use Rattle.gw_text.specs.model.Doors as doors;
 
-use crate::ipv4::{is_leading, parse_ipv4};
+use crate::ipv4::parse_ipv4;
 use crate::name::TextFault;
 use crate::text::Text;
 use std::alloc::{AllocError, Global};
 use std::marker::Model;
+use std::net::Ipv4Addr;
 
 /// An address of IPv4 and a port.
 #[derive(Clone, Copy, Debug, PartialEq, Eq)]
@@ -32,7 +33,7 @@ impl Model for Socket {
 }
 
 impl Socket {
-    /// The socket that a text names, as `127.0.0.1:8080`. It takes no memory.
+    /// The socket that a text names, as `127.0.0.1:8080`.
     pub fn parse(_alloc: Global, s: &str) -> Result<Self, TextFault>
         ensures { Parses (addresses.socket_of s.now) result }
     {
@@ -42,7 +43,7 @@ impl Socket {
     /// The address, `:` and the port.
     pub fn print(&self, alloc: Global) -> Result<Text, AllocError>
         ensures text { IfOk result (λ text. text ≡ addresses.socket_text self.now) }
-        ensures again { IfOk result (λ text. addresses.socket_of text ≡ Some self.now) }
+        ensures parsed { IfOk result (λ text. addresses.socket_of text ≡ Some self.now) }
     {
         let Socket { a, b, c, d, port } = *self;
         let text = format!(in alloc; "{a}.{b}.{c}.{d}:{port}")?;
@@ -50,7 +51,14 @@ impl Socket {
     }
 
     /// The address without the port.
-    pub fn address(&self, alloc: Global) -> Result<Text, AllocError>
+    pub fn address(&self) -> Ipv4Addr
+        ensures { result ≡ addresses.address_of self.now }
+    {
+        Ipv4Addr::new(self.a, self.b, self.c, self.d)
+    }
+
+    /// The text of the address without the port.
+    pub fn print_address(&self, alloc: Global) -> Result<Text, AllocError>
         ensures { IfOk result (λ text. text ≡ addresses.address_text self.now) }
     {
         let Socket { a, b, c, d, .. } = *self;
@@ -92,14 +100,15 @@ pub(crate) fn socket_of(s: &str) -> Option<Socket>
 {
     let (address, port) = around(s, ':');
     let port = port_of(port)?;
-    let i = parse_ipv4(address.as_bytes())?;
-    Some(Socket {
-        a: i.a,
-        b: i.b,
-        c: i.c,
-        d: i.d,
-        port,
-    })
+    let [a, b, c, d] = parse_ipv4(address.as_bytes())?.octets();
+    Some(Socket { a, b, c, d, port })
+}
+
+// Whether the byte may begin a number of several digits.
+fn is_leading(b: u8) -> bool
+    ensures { result ≡ addresses.is_leading b }
+{
+    b.is_ascii_digit() && b != b'0'
 }
 
 fn begins_above_0(text: &[u8]) -> bool
@@ -124,7 +133,7 @@ fn is_decimal(text: &[u8]) -> bool
 }
 
 /// The port that a text writes.
-#[tactic(auto, unfolding(crate::specs::model::Addresses::port_of))]
+#[tactic(auto, unfolding(crate::specs::model::Addresses::number_up_to))]
 pub(crate) fn port_of(s: &str) -> Option<u16>
     ensures { result ≡ addresses.port_of s.now }
 {

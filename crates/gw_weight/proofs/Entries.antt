@@ -1,9 +1,9 @@
 -- A book's map, entry by entry.
 use Rattle.std.proofs.Common.{◌≡◌, ℕ, ◌<◌, ◌≤◌, Bool, true, false, cond, ◌&&◌, ◌||◌, eqb, ltb, List, [], ◌∷◌, length, map, get_or, refl, sym, ap, subst, ◌∙◌, true≢false, arith, suc, zero, Some, None, Option, is_some, unwrap_or}
 use Rattle.std.specs.Option.{option_map}
-use Rattle.std.specs.Prelude.{Result, Ok, Err, OnOk, OnErr}
+use Rattle.std.specs.Prelude.{Result, Ok, Err, IfOk, OnOk, OnErr}
 use Rattle.std.proofs.Math.Bool.{and_assoc}
-use Rattle.std.proofs.lemmas.Bool.{and_parts, eqb-true}
+use Rattle.std.proofs.lemmas.Bool.{and_parts, eqb-true, eq-eqb}
 use Rattle.std.proofs.lemmas.List.{length-map}
 use Rattle.std.proofs.lemmas.List.Elements.{All-cons, All-head, All-tail}
 use Rattle.std.proofs.lemmas.List.Quantifiers.{position-Some}
@@ -16,6 +16,7 @@ use Rattle.std.specs.Vec.{vec_capacity}
 use Rattle.indexmap.specs.IndexMap.{insert_entry, set_value_at}
 use Rattle.gw_text.specs.model.Picks.{Choice as Plain, Shares, same_choice, with_numbers, numbers_of, holds, zeros, pick, after_pick, drawn_from, with_room, after_draw}
 use Rattle.gw_weight.specs.Books.{choice_of, entry_of, HasRoomFor, IsBookOf}
+use Rattle.gw_weight.specs.Fair.{IsFairPick}
 use Rattle.gw_weight.specs.declared.choice.Choice.{Choice}
 use Rattle.gw_weight.specs.contracts.choice.ChoicePartialEq.TheImpl.{ghosts}
 
@@ -235,3 +236,53 @@ own-room asked = record {
 pub either : {A E : Type 0} (P Q : Type 0) (r : Result A E) → OnOk r P → OnErr r Q → (Q → P) → P
 either P Q (Ok x) h k f = h
 either P Q (Err e) h k f = f k
+
+-- a choice is the same as itself
+same_choice-self : (c : Plain) → same_choice c c ≡ true
+same_choice-self c =
+    rw ((bytes_eq-Decides c.name.namespace c.name.namespace).1 refl, (bytes_eq-Decides c.name.name c.name.name).1 refl, eq-eqb c.number c.number refl, (bytes_eq-Decides c.weights c.weights).1 refl) refl
+
+-- the numbers of a choice are those that were written last
+pub numbers_of-with_numbers : (c : Plain) (numbers : List ℕ) (book : List (Plain × List ℕ)) → numbers_of c (with_numbers c numbers book) ≡ numbers
+numbers_of-with_numbers c numbers [] = ap (λ b. unwrap_or (cond b (Some numbers) None) (zeros c.weights)) (same_choice-self c)
+numbers_of-with_numbers c numbers (e ∷ book) = by (same_choice c e.0) refl (numbers_of-with_numbers c numbers book)
+  where
+    by : (b : Bool) → same_choice c e.0 ≡ b → numbers_of c (with_numbers c numbers book) ≡ numbers
+        → numbers_of c (cond b ((e.0, numbers) ∷ book) (e ∷ with_numbers c numbers book)) ≡ numbers
+    by true same rest = ap (λ b. unwrap_or (cond b (Some numbers) (lookup (same_choice c) book)) (zeros c.weights)) same
+    by false other rest = ap (λ b. unwrap_or (cond b (Some e.1) (lookup (same_choice c) (with_numbers c numbers book))) (zeros c.weights)) other ∙ rest
+
+-- a fair pick is one by equal weights and numbers
+pub IsFairPick-equal : (ws vs before was after now : List ℕ) (picked : Option ℕ) → ws ≡ vs → before ≡ was → after ≡ now
+    → IsFairPick ws before after picked → IsFairPick vs was now picked
+IsFairPick-equal ws vs before was after now picked weights numbers written fair =
+    subst (λ x. IsFairPick x was now picked) weights
+    (subst (λ x. IsFairPick ws x now picked) numbers (subst (λ x. IsFairPick ws before x picked) written fair))
+
+-- the pick of a choice that is in the book
+pub fair-found : (c : Plain) (book after : List (Plain × List ℕ)) (s : Shares) (picked : Option ℕ) → IsFoundIn c book s
+    → after ≡ with_numbers c (after_pick s.weights s.drawn picked) book
+    → IsFairPick s.weights s.drawn (after_pick s.weights s.drawn picked) picked
+    → IsFairPick c.weights (numbers_of c book) (numbers_of c after) picked
+fair-found c book after s picked found written fair =
+    let numbers = after_pick s.weights s.drawn picked in
+    IsFairPick-equal s.weights c.weights s.drawn (numbers_of c book) numbers (numbers_of c after) picked found.weights (sym found.numbers)
+    (sym (ap (numbers_of c) written ∙ numbers_of-with_numbers c numbers book)) fair
+
+-- the first pick of a choice that wasn't in the book
+pub fair-new : {E : Type 0} (a c : Plain) (room after book : List (Plain × List ℕ)) (r : Result (Option ℕ) E) → a ≡ c → IsNewIn c book
+    → IfOk r (λ picked. picked ≡ pick a.weights (zeros a.weights))
+    → OnOk r (after ≡ with_numbers a (after_pick a.weights (zeros a.weights) (pick a.weights (zeros a.weights))) room)
+    → IfOk r (λ picked. IsFairPick a.weights (zeros a.weights) (after_pick a.weights (zeros a.weights) picked) picked)
+    → IfOk r (λ picked. IsFairPick c.weights (numbers_of c book) (numbers_of c after) picked)
+fair-new a c room after book (Err e) same new is written fair = tt
+fair-new a c room after book (Ok picked) same new is written fair =
+    let numbers = after_pick a.weights (zeros a.weights) (pick a.weights (zeros a.weights)) in
+    let before : zeros a.weights ≡ numbers_of c book = ap (λ (d : Plain). zeros d.weights) same ∙ sym new.numbers in
+    let now : after_pick a.weights (zeros a.weights) picked ≡ numbers_of c after =
+    ap (after_pick a.weights (zeros a.weights)) is
+    ∙ sym (numbers_of-with_numbers a numbers room)
+    ∙ ap (λ (d : Plain). numbers_of d (with_numbers a numbers room)) same
+    ∙ ap (numbers_of c) (sym written) in
+    IsFairPick-equal a.weights c.weights (zeros a.weights) (numbers_of c book) (after_pick a.weights (zeros a.weights) picked) (numbers_of c after) picked
+    (ap (λ (d : Plain). d.weights) same) before now fair

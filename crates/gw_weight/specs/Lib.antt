@@ -1,2 +1,3 @@
-pub mod Inside
 pub mod Books
+pub mod Fair
+pub mod Inside

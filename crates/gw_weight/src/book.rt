@@ -3,6 +3,7 @@ ghost use Rattle.std.specs.Prelude.{slice_get, IfSome, nat_lt, if◌then◌else�
 ghost use Rattle.indexmap.specs.IndexMap.{index_map_len, set_value_at, values};
 ghost use Rattle.gw_text.specs.model.Picks.{after_pick, pick, with_numbers, zeros};
 ghost use Rattle.gw_weight.specs.Books.{choice_of, entry_of, HasRoomFor, IsBookOf};
+ghost use Rattle.gw_weight.specs.Fair.{IsFairPick};
 ghost use Rattle.gw_weight.specs.declared.choice.Choice.{Choice};
 
 use crate::Shares;
@@ -36,9 +37,9 @@ impl Model for Book {
 }
 
 impl Book {
-    ghost use Rattle.gw_text.specs.model.Picks.{after_draw, drawn_from, holds};
+    ghost use Rattle.gw_text.specs.model.Picks.{after_draw, drawn_from, holds, numbers_of};
 
-    /// A book without numbers. It takes no memory.
+    /// A book without numbers.
     pub fn new(alloc: Global) -> Self
         ensures { result ≡ [] }
     {
@@ -49,8 +50,7 @@ impl Book {
         }
     }
 
-    /// The next pick of a choice, or none where its weights' sum is 0. A choice that the book holds
-    /// takes no memory.
+    /// The next pick of a choice, or none where its weights' sum is 0.
     pub fn draw(
         &mut self,
         name: &Key,
@@ -60,6 +60,11 @@ impl Book {
         requires { length weights.now * sum weights.now < 2 ^ 126 }
         ensures pick { IfOk result (λ picked. picked ≡ drawn_from (record { name = name.now; number = number; weights = weights.now }) self.old) }
         ensures after { OnOk result (self.new ≡ after_draw (record { name = name.now; number = number; weights = weights.now }) self.old) }
+
+        // Fair as one of `Shares`, by the numbers that the book keeps of the choice.
+        ensures fair { IfOk result (λ picked. IsFairPick weights.now
+            (numbers_of (record { name = name.now; number = number; weights = weights.now }) self.old)
+            (numbers_of (record { name = name.now; number = number; weights = weights.now }) self.new) picked) }
         ensures known { IsTrue (holds (record { name = name.now; number = number; weights = weights.now }) self.old) → IsOk result }
         ensures err { OnErr result ((self.new ≡ self.old) ⊎ (self.new ≡ [])) }
     {
@@ -75,7 +80,8 @@ impl Book {
 fn draw_at(shares: &mut IndexMap<Choice, Shares>, place: usize) -> Option<usize>
     requires { place < index_map_len shares.old }
     ensures { IfSome (slice_get (values shares.old) place) (λ s. (result ≡ pick s.weights s.drawn)
-        × (shares.new.entries ≡ set_value_at shares.old.entries place (record s { drawn = after_pick s.weights s.drawn result }))) }
+        × (shares.new.entries ≡ set_value_at shares.old.entries place (record s { drawn = after_pick s.weights s.drawn result }))
+        × IsFairPick s.weights s.drawn (after_pick s.weights s.drawn result) result) }
 {
     shares[place].next()
 }
@@ -100,6 +106,8 @@ fn draw_new(
     ensures after { OnOk result (map entry_of shares.new.entries ≡ with_numbers (choice_of choice.now)
         (after_pick choice.now.weights.items (zeros choice.now.weights.items) (pick choice.now.weights.items (zeros choice.now.weights.items)))
         (map entry_of shares.old.entries)) }
+    ensures fair { IfOk result (λ picked. IsFairPick choice.now.weights.items (zeros choice.now.weights.items)
+        (after_pick choice.now.weights.items (zeros choice.now.weights.items) picked) picked) }
     ensures kept { (asked : Choice) → IsBookOf shares.old.entries asked → HasRoomFor asked (choice_of choice.now) → OnOk result (IsBookOf shares.new.entries asked) }
     ensures err { OnErr result (shares.new.entries ≡ shares.old.entries) }
 {
@@ -108,57 +116,4 @@ fn draw_new(
     let key = copy_of(alloc, choice)?;
     shares.insert(key, counted)?;
     Ok(picked)
-}
-
-#[cfg(test)]
-mod tests {
-    use super::*;
-    use gw_text::Text;
-    use std::test::Fail;
-
-    fn key(alloc: Global, namespace: &str, name: &str) -> Result<Key, NoMemory> {
-        Ok(Key {
-            namespace: Text::of(alloc, namespace)?,
-            name: Text::of(alloc, name)?,
-        })
-    }
-
-    fn draw(book: &mut Book, name: &Key, number: u64) -> Result<Option<usize>, NoMemory> {
-        book.draw(name, number, &[1, 1])
-    }
-
-    #[test]
-    fn keeps_choices_apart(rt: HostRuntime) -> Result<(), Fail> {
-        let mut book = Book::new(rt.alloc());
-        let names = [
-            key(rt.alloc(), "a", "bc")?,
-            key(rt.alloc(), "ab", "c")?,
-            key(rt.alloc(), "a", "c")?,
-        ];
-        for wanted in [0, 1, 0] {
-            for name in &names {
-                for number in 0..2 {
-                    assert_eq!(rt; draw(&mut book, name, number)?, Some(wanted));
-                }
-            }
-        }
-        assert_eq!(rt; book.draw(&names[0], 0, &[1, 1, 1])?, Some(0));
-        assert_eq!(rt; book.draw(&names[0], 0, &[0, 0])?, None);
-        Ok(())
-    }
-
-    #[test]
-    fn forgets_at_a_new_choice(rt: HostRuntime) -> Result<(), Fail> {
-        let mut book = Book::new(rt.alloc());
-        let name = key(rt.alloc(), "default", "r")?;
-        for number in 0..4096 {
-            assert_eq!(rt; draw(&mut book, &name, number)?, Some(0));
-        }
-        assert_eq!(rt; draw(&mut book, &name, 4095)?, Some(1));
-        assert_eq!(rt; draw(&mut book, &name, 1)?, Some(1));
-        assert_eq!(rt; draw(&mut book, &name, 4096)?, Some(0));
-        assert_eq!(rt; draw(&mut book, &name, 0)?, Some(0));
-        assert_eq!(rt; draw(&mut book, &name, 4096)?, Some(1));
-        Ok(())
-    }
 }

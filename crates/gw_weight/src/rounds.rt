@@ -25,16 +25,3 @@ pub fn first_picks(alloc: Global, weights: &[u32], count: usize) -> Result<Vec<u
     }
     Ok(picks)
 }
-
-#[cfg(test)]
-mod tests {
-    use super::*;
-    use std::test::*;
-
-    #[test]
-    fn first_picks_are_those_in_turn(rt: HostRuntime) -> Result<(), Fail> {
-        let picks = first_picks(rt.alloc(), &[5, 1, 1], 9)?;
-        assert_eq!(rt; picks.as_slice(), [0, 0, 1, 0, 2, 0, 0, 0, 0].as_slice());
-        Ok(())
-    }
-}

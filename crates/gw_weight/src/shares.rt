@@ -1,10 +1,10 @@
-ghost use Rattle.std.specs.Prelude.{◌≡◌, ℕ, ◌*◌, ◌^◌, ◌<◌, ◌≤◌, length, sum, replicate, slice_index, IfOk, IfSome, IsNone, ◌↔◌};
+ghost use Rattle.std.specs.Prelude.{◌≡◌, ℕ, ◌*◌, ◌^◌, ◌<◌, ◌≤◌, length, sum, replicate, slice_index, IfOk};
 
 use gw_text::NoMemory;
 use std::alloc::Global;
 use std::marker::Model;
 
-/// Weights, and how often each was picked since the numbers were last 0. A pick takes no memory.
+/// Weights, and how often each was picked since the numbers were last 0.
 #[derive(Drop)]
 pub struct Shares {
     weights: Vec<u32>,
@@ -25,7 +25,8 @@ impl Model for Shares {
 }
 
 impl Shares {
-    ghost use Rattle.gw_text.specs.model.Picks.{after_pick, claim, counted, pick, zeros, IsKept};
+    ghost use Rattle.gw_text.specs.model.Picks.{after_pick, claim, pick, zeros};
+    ghost use Rattle.gw_weight.specs.Fair.{IsFairPick};
 
     /// Shares of which none was picked yet.
     pub fn new(alloc: Global, weights: &[u32]) -> Result<Self, NoMemory>
@@ -46,13 +47,8 @@ impl Shares {
     /// The next pick, or none where the weights' sum is 0.
     pub fn next(&mut self) -> Option<usize>
         ensures pick { result ≡ pick self.old.weights self.old.drawn }
-        ensures none { IsNone result ↔ (sum self.old.weights ≡ 0) }
-        ensures within { IfSome result (λ i. i < length self.old.weights) }
         ensures after { self.new ≡ record self.old { drawn = after_pick self.old.weights self.old.drawn result } }
-        ensures kept { IsKept self.new.weights self.new.drawn }
-
-        // Where the pick ends a round, the numbers before their return to 0 are the weights.
-        ensures round { IfSome result (λ i. sum (counted self.old.drawn i) ≡ sum self.old.weights → counted self.old.drawn i ≡ self.old.weights) }
+        ensures fair { IsFairPick self.old.weights self.old.drawn (after_pick self.old.weights self.old.drawn result) result }
     {
         if self.total == 0 {
             return None;
@@ -117,65 +113,4 @@ fn sum_of(weights: &[u32]) -> u128
         total += u128::from(*weight);
     }
     total
-}
-
-#[cfg(test)]
-mod tests {
-    use super::*;
-    use std::process::Abort;
-    use std::test::Fail;
-
-    fn shares_of(rt: &impl Abort, alloc: Global, weights: &[u32]) -> Result<Shares, NoMemory> {
-        assert!(rt; weights.len() <= 4);
-        let _sum = sum_of(weights);
-        Shares::new(alloc, weights)
-    }
-
-    #[test]
-    fn picks_in_turn(rt: HostRuntime) -> Result<(), Fail> {
-        for (weights, wanted) in [
-            (
-                [5, 1, 1].as_slice(),
-                [0, 0, 1, 0, 2, 0, 0, 0, 0, 1, 0, 2, 0, 0].as_slice(),
-            ),
-            ([0, 3].as_slice(), [1, 1, 1].as_slice()),
-            ([1, 1].as_slice(), [0, 1, 0, 1].as_slice()),
-        ] {
-            let mut shares = shares_of(&rt, rt.alloc(), weights)?;
-            for pick in wanted {
-                assert_eq!(rt; shares.next(), Some(*pick), "by {weights:?}");
-            }
-        }
-        let mut none = shares_of(&rt, rt.alloc(), &[0, 0])?;
-        assert_eq!(rt; none.next(), None);
-        Ok(())
-    }
-
-    // All weights up to 6 on up to 4 backends: each of three rounds gives each its weight.
-    #[test]
-    fn shares_each_round(rt: HostRuntime) -> Result<(), Fail> {
-        for number in 0..2401_u32 {
-            let all = [number % 7, number / 7 % 7, number / 49 % 7, number / 343];
-            for backends in 1..=4_usize {
-                count_rounds(&rt, rt.alloc(), &all[..backends])?;
-            }
-        }
-        Ok(())
-    }
-
-    fn count_rounds(rt: &impl Abort, alloc: Global, weights: &[u32]) -> Result<(), Fail> {
-        let mut shares = shares_of(rt, alloc, weights)?;
-        let sum = sum_of(weights);
-        for _ in 0..3 {
-            let mut drawn = [0_u32; 4];
-            for _ in 0..sum {
-                let picked = shares.next().ok_or("no pick")?;
-                assert!(rt; picked < 4);
-                drawn[picked] = drawn[picked].saturating_add(1);
-            }
-            assert!(rt; drawn.starts_with(weights), "by {weights:?}");
-        }
-        assert_eq!(rt; shares.next().is_none(), sum == 0);
-        Ok(())
-    }
 }

@@ -24,13 +24,13 @@ fn each_read_fails_in_turn(rt: HostRuntime) -> Result<(), Fail> {
     for n in 0..3 {
         let sink = MemSink::new(rt.alloc(), Vec::new(rt.alloc()));
         let ran = run_over(rt.alloc(), "status", source_failing(rt.alloc(), n)?, sink)?;
-        assert_eq!(rt; ran.status, 3, "read {n}");
+        assert_eq!(rt; ran.exit_code, 3, "read {n}");
         assert_eq!(rt; ran.source.faults(), 1);
         assert_eq!(rt; ran.sink.written(), b"{\"fault\":\"read\"}\n".as_slice());
     }
     let sink = MemSink::new(rt.alloc(), Vec::new(rt.alloc()));
     let ran = run_over(rt.alloc(), "status", source_failing(rt.alloc(), 3)?, sink)?;
-    assert_eq!(rt; ran.status, 0, "there is no further read");
+    assert_eq!(rt; ran.exit_code, 0, "there is no further read");
     Ok(())
 }
 
@@ -49,12 +49,12 @@ fn each_write_fails_in_turn(rt: HostRuntime) -> Result<(), Fail> {
     let text = TEXT.as_slice();
     for n in 0..text.len() {
         let ran = written_until(rt.alloc(), n as u64)?;
-        assert_eq!(rt; ran.status, 4, "write {n}");
+        assert_eq!(rt; ran.exit_code, 4, "write {n}");
         assert_eq!(rt; ran.sink.faults(), 1);
         assert_eq!(rt; ran.sink.written(), &text[..n]);
     }
     let ran = written_until(rt.alloc(), text.len() as u64)?;
-    assert_eq!(rt; ran.status, 0, "a byte at a time");
+    assert_eq!(rt; ran.exit_code, 0, "a byte at a time");
     assert_eq!(rt; ran.sink.written(), text);
     Ok(())
 }
@@ -63,7 +63,7 @@ fn each_write_fails_in_turn(rt: HostRuntime) -> Result<(), Fail> {
 fn a_fault_line_that_fails(rt: HostRuntime) -> Result<(), Fail> {
     let sink = sink_failing(rt.alloc(), 3)?;
     let ran = run_over(rt.alloc(), "nope", source_failing(rt.alloc(), 0)?, sink)?;
-    assert_eq!(rt; ran.status, 2);
+    assert_eq!(rt; ran.exit_code, 2);
     assert_eq!(rt; ran.sink.written(), b"{\"f".as_slice());
     Ok(())
 }
@@ -71,7 +71,7 @@ fn a_fault_line_that_fails(rt: HostRuntime) -> Result<(), Fail> {
 #[test]
 fn an_input_that_is_too_long(rt: HostRuntime) -> Result<(), Fail> {
     let ran = run_on(rt.alloc(), "status", vec![in rt.alloc(); b' '; 67_108_865]?)?;
-    assert_eq!(rt; ran.status, 7);
+    assert_eq!(rt; ran.exit_code, 7);
     assert_eq!(rt; ran.sink.written(), b"{\"fault\":\"size\"}\n".as_slice());
     Ok(())
 }

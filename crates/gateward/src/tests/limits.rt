@@ -21,7 +21,7 @@ fn the_longest_line(rt: HostRuntime) -> Result<(), Fail> {
         &[CLASS_LINE, r#"{"changes":1,"refused":0,"skipped":0}"#],
     )?;
     assert_eq!(rt; ran.sink.written(), text.as_slice());
-    assert_eq!(rt; ran.status, 0);
+    assert_eq!(rt; ran.exit_code, 0);
     let ran = run_on(rt.alloc(), "status", spaced(rt.alloc(), 1_048_577)?)?;
     let text = joined(
         rt.alloc(),
@@ -31,7 +31,7 @@ fn the_longest_line(rt: HostRuntime) -> Result<(), Fail> {
         ],
     )?;
     assert_eq!(rt; ran.sink.written(), text.as_slice());
-    assert_eq!(rt; ran.status, 1);
+    assert_eq!(rt; ran.exit_code, 1);
     Ok(())
 }
 
@@ -63,6 +63,6 @@ fn as_many_objects_as_can_be(rt: HostRuntime) -> Result<(), Fail> {
         ],
     )?;
     assert_eq!(rt; ran.sink.written(), text.as_slice());
-    assert_eq!(rt; ran.status, 1);
+    assert_eq!(rt; ran.exit_code, 1);
     Ok(())
 }

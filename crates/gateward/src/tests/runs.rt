@@ -25,12 +25,12 @@ fn expect_run(
     words: &str,
     lines: &[&str],
     texts: &[&str],
-    status: u8,
+    exit_code: u8,
 ) -> Result<(), AllocError> {
     let ran = run_on(rt.alloc(), words, joined(rt.alloc(), lines)?)?;
     let text = joined(rt.alloc(), texts)?;
     assert_eq!(rt; ran.sink.written(), text.as_slice());
-    assert_eq!(rt; ran.status, status);
+    assert_eq!(rt; ran.exit_code, exit_code);
     assert!(rt; ran.source.left().is_empty());
     Ok(())
 }
@@ -164,13 +164,13 @@ fn kinds_that_are_not_supported(rt: HostRuntime) -> Result<(), Fail> {
 
 #[test]
 fn classes_of_others_and_with_parameters(rt: HostRuntime) -> Result<(), Fail> {
-    let foreign =
+    let of_another =
         r#"{"type":"ADDED","object":{"apiVersion":"gateway.networking.k8s.io/v1","kind":"GatewayClass","metadata":{"name":"c"},"spec":{"controllerName":"example.com/other"}}}"#;
     let summary = r#"{"changes":2,"refused":0,"skipped":0}"#;
     expect_run(
         &rt,
         "status default/g:80=127.0.0.1:18080",
-        &[foreign, GATEWAY],
+        &[of_another, GATEWAY],
         &[summary],
         0,
     )?;
@@ -208,11 +208,11 @@ usage 2 status default/g:80=127.0.0.1:18080 default/g:81=127.0.0.2:18081 -x";
     Ok(())
 }
 
-// A row has the fault's name, the status and the words.
+// A row has the fault's name, the exit code and the words.
 fn expect_fault(rt: &(impl Abort + AllocGlobal), row: &str) -> Result<(), AllocError> {
     let mut parts = row.splitn(3, ' ');
     let name = parts.next().unwrap_or("");
-    let status = parts.next().unwrap_or("");
+    let exit_code = parts.next().unwrap_or("");
     let ran = run_on(
         rt.alloc(),
         parts.next().unwrap_or(""),
@@ -220,7 +220,11 @@ fn expect_fault(rt: &(impl Abort + AllocGlobal), row: &str) -> Result<(), AllocE
     )?;
     let text = format!(in rt.alloc(); "{{\"fault\":\"{name}\"}}\n")?;
     assert_eq!(rt; ran.sink.written(), text.as_bytes(), "{row}");
-    assert_eq!(rt; ran.status, if status == "2" { 2 } else { 5 }, "{row}");
+    assert_eq!(rt;
+        ran.exit_code,
+        if exit_code == "2" { 2 } else { 5 },
+        "{row}"
+    );
     assert!(rt; !ran.source.left().is_empty(), "the input is not read");
     Ok(())
 }

@@ -1,82 +1,54 @@
 -- Conditions of a status. Source: Condition of the Kubernetes API, and the types and reasons of conditions in the Gateway
 -- API reference.
 use Rattle.std.specs.Prelude.{ℕ, List, Bool, true, false, codes}
+use Rattle.gw_text.specs.declared.condition.CondKind.{CondKind}
+use Rattle.gw_text.specs.declared.condition.CondKind.TheVariants as kinds
+use Rattle.gw_text.specs.declared.condition.Reason.{Reason}
+use Rattle.gw_text.specs.declared.condition.Reason.TheVariants as reasons
 
--- The types of conditions.
-pub data ConditionKind : Type 0 where
-  is_accepted : ConditionKind
-  is_conflicted : ConditionKind
-  is_programmed : ConditionKind
-  has_resolved_refs : ConditionKind
-
--- The reasons of conditions.
-pub data Reason : Type 0 where
-  accepted : Reason
-  address_not_assigned : Reason
-  address_not_usable : Reason
-  backend_not_found : Reason
-  hostname_conflict : Reason
-  incompatible_filters : Reason
-  invalid : Reason
-  invalid_kind : Reason
-  invalid_parameters : Reason
-  invalid_route_kinds : Reason
-  listeners_not_valid : Reason
-  no_conflicts : Reason
-  no_matching_listener_hostname : Reason
-  no_matching_parent : Reason
-  not_allowed_by_listeners : Reason
-  port_unavailable : Reason
-  programmed : Reason
-  protocol_conflict : Reason
-  ref_not_permitted : Reason
-  resolved_refs : Reason
-  unsupported_address : Reason
-  unsupported_protocol : Reason
-  unsupported_value : Reason
-
--- A condition: its type, whether it is True, and why.
+-- A condition: its type, whether its status is True, and why.
 pub record Condition : Type 0 where
-  pub kind : ConditionKind
+  pub kind : CondKind
   pub truth : Bool
   pub reason : Reason
 
--- A condition that is True, and one that is False.
-abbrev pub yes : ConditionKind → Reason → Condition
-yes kind reason = record { kind = kind; truth = true; reason = reason }
+-- A condition that is True.
+abbrev pub true_by : CondKind → Reason → Condition
+true_by kind reason = record { kind = kind; truth = true; reason = reason }
 
-abbrev pub no : ConditionKind → Reason → Condition
-no kind reason = record { kind = kind; truth = false; reason = reason }
+-- A condition that is False.
+abbrev pub false_by : CondKind → Reason → Condition
+false_by kind reason = record { kind = kind; truth = false; reason = reason }
 
 -- How types are written.
-abbrev pub condition_kind_text : ConditionKind → List ℕ
-condition_kind_text is_accepted = codes "Accepted"
-condition_kind_text is_conflicted = codes "Conflicted"
-condition_kind_text is_programmed = codes "Programmed"
-condition_kind_text has_resolved_refs = codes "ResolvedRefs"
+abbrev pub condition_kind_text : CondKind → List ℕ
+condition_kind_text kinds.Accepted = codes "Accepted"
+condition_kind_text kinds.Conflicted = codes "Conflicted"
+condition_kind_text kinds.Programmed = codes "Programmed"
+condition_kind_text kinds.ResolvedRefs = codes "ResolvedRefs"
 
 -- How reasons are written.
 unfoldable pub reason_text : Reason → List ℕ
-reason_text accepted = codes "Accepted"
-reason_text address_not_assigned = codes "AddressNotAssigned"
-reason_text address_not_usable = codes "AddressNotUsable"
-reason_text backend_not_found = codes "BackendNotFound"
-reason_text hostname_conflict = codes "HostnameConflict"
-reason_text incompatible_filters = codes "IncompatibleFilters"
-reason_text invalid = codes "Invalid"
-reason_text invalid_kind = codes "InvalidKind"
-reason_text invalid_parameters = codes "InvalidParameters"
-reason_text invalid_route_kinds = codes "InvalidRouteKinds"
-reason_text listeners_not_valid = codes "ListenersNotValid"
-reason_text no_conflicts = codes "NoConflicts"
-reason_text no_matching_listener_hostname = codes "NoMatchingListenerHostname"
-reason_text no_matching_parent = codes "NoMatchingParent"
-reason_text not_allowed_by_listeners = codes "NotAllowedByListeners"
-reason_text port_unavailable = codes "PortUnavailable"
-reason_text programmed = codes "Programmed"
-reason_text protocol_conflict = codes "ProtocolConflict"
-reason_text ref_not_permitted = codes "RefNotPermitted"
-reason_text resolved_refs = codes "ResolvedRefs"
-reason_text unsupported_address = codes "UnsupportedAddress"
-reason_text unsupported_protocol = codes "UnsupportedProtocol"
-reason_text unsupported_value = codes "UnsupportedValue"
+reason_text reasons.Accepted = codes "Accepted"
+reason_text reasons.AddressNotAssigned = codes "AddressNotAssigned"
+reason_text reasons.AddressNotUsable = codes "AddressNotUsable"
+reason_text reasons.BackendNotFound = codes "BackendNotFound"
+reason_text reasons.HostnameConflict = codes "HostnameConflict"
+reason_text reasons.IncompatibleFilters = codes "IncompatibleFilters"
+reason_text reasons.Invalid = codes "Invalid"
+reason_text reasons.InvalidKind = codes "InvalidKind"
+reason_text reasons.InvalidParameters = codes "InvalidParameters"
+reason_text reasons.InvalidRouteKinds = codes "InvalidRouteKinds"
+reason_text reasons.ListenersNotValid = codes "ListenersNotValid"
+reason_text reasons.NoConflicts = codes "NoConflicts"
+reason_text reasons.NoMatchingListenerHostname = codes "NoMatchingListenerHostname"
+reason_text reasons.NoMatchingParent = codes "NoMatchingParent"
+reason_text reasons.NotAllowedByListeners = codes "NotAllowedByListeners"
+reason_text reasons.PortUnavailable = codes "PortUnavailable"
+reason_text reasons.Programmed = codes "Programmed"
+reason_text reasons.ProtocolConflict = codes "ProtocolConflict"
+reason_text reasons.RefNotPermitted = codes "RefNotPermitted"
+reason_text reasons.ResolvedRefs = codes "ResolvedRefs"
+reason_text reasons.UnsupportedAddress = codes "UnsupportedAddress"
+reason_text reasons.UnsupportedProtocol = codes "UnsupportedProtocol"
+reason_text reasons.UnsupportedValue = codes "UnsupportedValue"

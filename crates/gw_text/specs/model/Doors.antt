@@ -43,19 +43,21 @@ abbrev pub some_two : (Door → Door → Bool) → List Door → Bool
 some_two so [] = false
 some_two so (d ∷ doors) = list_any (so d) doors || some_two so doors
 
+-- The same four numbers.
 abbrev pub same_address : Socket → Socket → Bool
 same_address s t = s.a == t.a && s.b == t.b && s.c == t.c && s.d == t.d
 
+-- The same address and port.
 abbrev pub same_socket : Socket → Socket → Bool
 same_socket s t = same_address s t && s.port == t.port
 
 -- Both are of one Gateway, and their addresses differ.
-abbrev pub is_elsewhere : Door → Door → Bool
-is_elsewhere c d = same_key c.gateway d.gateway && not (same_address c.at d.at)
+abbrev pub have_two_addresses : Door → Door → Bool
+have_two_addresses c d = same_key c.gateway d.gateway && not (same_address c.at d.at)
 
 -- Both are of one Gateway and one listener port, or have one socket.
-abbrev pub is_again : Door → Door → Bool
-is_again c d = same_key c.gateway d.gateway && c.port == d.port || same_socket c.at d.at
+abbrev pub are_one_door : Door → Door → Bool
+are_one_door c d = same_key c.gateway d.gateway && c.port == d.port || same_socket c.at d.at
 
 -- What doors may do wrong.
 pub data DoorFault : Type 0 where
@@ -67,8 +69,8 @@ pub data DoorFault : Type 0 where
 unfoldable pub door_fault : List Door → Option DoorFault
 door_fault doors =
     if nat_lt 64 (length doors) then Some too_many_doors
-    else (if some_two is_elsewhere doors then Some two_addresses
-    else (if some_two is_again doors then Some door_twice
+    else (if some_two have_two_addresses doors then Some two_addresses
+    else (if some_two are_one_door doors then Some door_twice
     else None))
 
 -- The first door of a Gateway, in the order in which the doors were given.

@@ -1,9 +1,9 @@
 -- The forms that names, namespaces and hostnames have, and how a text is printed.
-use Rattle.std.specs.Prelude.{ℕ, ◌-◌, List, [], ◌++◌, length, take, drop, slice_index, Bool, true, false, ◌&&◌, ◌||◌, ◌==◌, if◌then◌else◌, nat_le, bytes_eq, codes, encode_utf8_all, Option, Some, None}
+use Rattle.std.specs.Prelude.{ℕ, ◌-◌, List, [], ◌++◌, length, take, drop, slice_index, Bool, true, false, not, ◌&&◌, ◌||◌, ◌==◌, if◌then◌else◌, nat_le, bytes_eq, codes, encode_utf8_all, Option, Some, None}
 use Rattle.std.specs.Char.{is_ascii_lowercase, is_ascii_digit}
 use Rattle.std.specs.List.{list_all, slice_split, before_first, after_first}
 use Rattle.std.specs.Str.{is_utf8}
-use Rattle.gw_text.specs.model.Names.{Key}
+use Rattle.gw_text.specs.model.Names.{Key, is_given}
 use Rattle.gw_text.specs.model.Hostnames.{Host}
 
 -- A lower-case letter or a digit. Source: "lowercase alphanumeric characters" of the names of Kubernetes objects.
@@ -38,6 +38,18 @@ name_of t = if is_name t then Some t else None
 -- The name of a namespace is one label.
 abbrev pub is_namespace : List ℕ → Bool
 is_namespace t = is_label t
+
+-- The name of a namespace, or nothing, for objects of kinds without one.
+abbrev pub is_namespace_or_none : List ℕ → Bool
+is_namespace_or_none t = not (is_given t) || is_namespace t
+
+-- The name of a namespace that a text gives.
+abbrev pub namespace_of : List ℕ → Option (List ℕ)
+namespace_of t = if is_namespace t then Some t else None
+
+-- The key that an object may have.
+abbrev pub is_key : Key → Bool
+is_key k = is_namespace_or_none k.namespace && is_name k.name
 
 -- A hostname without a wildcard: labels with dots between them, at most 253 bytes in all. Source: RFC 1123 section 2.1,
 -- and PreciseHostname of the Gateway API reference.

@@ -2,6 +2,7 @@
 use Rattle.std.specs.Prelude.{ℕ, List, Bool}
 use Rattle.gw_text.specs.model.Meta.{Meta}
 
+-- A GatewayClass.
 pub record GatewayClass : Type 0 where
   pub meta : Meta
   -- the controller that manages Gateways of this class

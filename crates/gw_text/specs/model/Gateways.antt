@@ -1,15 +1,13 @@
 -- Gateways and their listeners. Source: Gateway of the Gateway API reference.
-use Rattle.std.specs.Prelude.{ℕ, List, Option}
+use Rattle.std.specs.Prelude.{ℕ, List, Bool, true, false, Option}
+use Rattle.gw_text.specs.declared.types.Protocol.{Protocol}
+use Rattle.gw_text.specs.declared.types.Protocol.TheVariants as protocols
+use Rattle.gw_text.specs.declared.types.AddressType.{AddressType}
+use Rattle.gw_text.specs.declared.types.AddressType.TheVariants as address_types
+use Rattle.gw_text.specs.declared.types.FromNamespaces.{FromNamespaces}
 use Rattle.gw_text.specs.model.Hostnames.{Host}
 use Rattle.gw_text.specs.model.Meta.{Meta}
 use Rattle.gw_text.specs.model.Selectors.{Requirement}
-
--- The namespaces from which Routes may attach: all, the Gateway's own, or those that the selector accepts. Source:
--- FromNamespaces.
-pub data FromNamespaces : Type 0 where
-  from_all : FromNamespaces
-  from_same : FromNamespaces
-  from_selector : FromNamespaces
 
 -- A kind of Route. Source: RouteGroupKind.
 pub record RouteKind : Type 0 where
@@ -18,6 +16,7 @@ pub record RouteKind : Type 0 where
 
 -- Which Routes may attach to a listener. Source: AllowedRoutes.
 pub record AllowedRoutes : Type 0 where
+  -- all namespaces, the Gateway's own, or those that the selector accepts
   pub from : FromNamespaces
   -- read where from is Selector; an absent selector accepts no namespace, one without requirements accepts all
   pub selector : Option (List Requirement)
@@ -31,16 +30,16 @@ pub record Listener : Type 0 where
   -- an absent hostname takes requests for all
   pub hostname : Option Host
   pub port : ℕ
-  -- as HTTP, HTTPS, TLS or TCP, or another
-  pub protocol : List ℕ
+  pub protocol : Protocol
   pub allowed_routes : AllowedRoutes
 
 -- An address that the Gateway asks for. Source: GatewaySpecAddress.
 pub record Address : Type 0 where
   -- its type, as IPAddress
-  pub sort : List ℕ
+  pub sort : AddressType
   pub value : Option (List ℕ)
 
+-- A Gateway.
 pub record Gateway : Type 0 where
   pub meta : Meta
   -- the GatewayClass to which it belongs
@@ -48,3 +47,24 @@ pub record Gateway : Type 0 where
   -- one or more
   pub listeners : List Listener
   pub addresses : List Address
+
+-- HTTP, the protocol that is served. Source: ProtocolType.
+abbrev pub is_http_protocol : Protocol → Bool
+is_http_protocol protocols.Http = true
+is_http_protocol protocols.Https = false
+is_http_protocol protocols.Tls = false
+is_http_protocol protocols.Tcp = false
+is_http_protocol (protocols.Other name) = false
+
+-- Another protocol that wants the port of TCP for itself.
+abbrev pub is_over_tcp_protocol : Protocol → Bool
+is_over_tcp_protocol protocols.Http = false
+is_over_tcp_protocol protocols.Https = true
+is_over_tcp_protocol protocols.Tls = true
+is_over_tcp_protocol protocols.Tcp = true
+is_over_tcp_protocol (protocols.Other name) = false
+
+-- The type of address that is supported. Source: AddressType.
+abbrev pub is_ip_address_type : AddressType → Bool
+is_ip_address_type address_types.IpAddress = true
+is_ip_address_type (address_types.Other name) = false

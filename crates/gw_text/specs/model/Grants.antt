@@ -15,6 +15,7 @@ pub record GrantTo : Type 0 where
   -- absent: all of this kind
   pub name : Option (List ℕ)
 
+-- A ReferenceGrant.
 pub record ReferenceGrant : Type 0 where
   pub meta : Meta
   pub from : List GrantFrom

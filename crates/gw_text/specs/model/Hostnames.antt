@@ -1,6 +1,6 @@
 -- Hostnames of listeners and Routes.
-use Rattle.std.specs.Prelude.{ℕ, ◌+◌, List, ◌++◌, Bool, IsTrue, ◌&&◌, ◌||◌, nat_eq, nat_lt, length, codes, if◌then◌else◌}
-use Rattle.std.specs.List.{ends_with}
+use Rattle.std.specs.Prelude.{ℕ, ◌+◌, List, [], ◌∷◌, ◌++◌, Bool, true, false, not, Option, Some, None, IsTrue, ◌&&◌, ◌||◌, nat_eq, nat_lt, length, codes, if◌then◌else◌}
+use Rattle.std.specs.List.{ends_with, list_any}
 use Rattle.std.specs.Str.{bytes_eq}
 
 -- A hostname: precise, or a wildcard with the text after its `*.`. Source: Hostname of the Gateway API reference.
@@ -26,6 +26,24 @@ meets a b =
     if a.wild then
     (if b.wild then bytes_eq a.text b.text || is_below a.text b.text || is_below b.text a.text else covers a b.text)
     else (if b.wild then covers b a.text else bytes_eq a.text b.text)
+
+-- An absent hostname of a listener or an empty list of a Route meets everything. Source: Listener.hostname and
+-- HTTPRouteSpec.hostnames.
+abbrev pub meets_some : Option Host → List Host → Bool
+meets_some None hosts = true
+meets_some (Some h) [] = true
+meets_some (Some h) (x ∷ hosts) = list_any (meets h) (x ∷ hosts)
+
+-- Equal hostnames.
+abbrev pub same_host : Host → Host → Bool
+same_host a b = (if a.wild then b.wild else not b.wild) && bytes_eq a.text b.text
+
+-- Equal hostnames of listeners; two absent ones are equal.
+abbrev pub same_hostname : Option Host → Option Host → Bool
+same_hostname None None = true
+same_hostname (Some a) (Some b) = same_host a b
+same_hostname None (Some b) = false
+same_hostname (Some a) None = false
 
 -- Some name is covered by both.
 abbrev pub HaveCommonName : Host → Host → Type 0

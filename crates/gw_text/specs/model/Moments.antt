@@ -60,10 +60,11 @@ civil_of t = record {
 unfoldable pub second_of : List ℕ → Option ℤ
 second_of t = if has_form t && is_date (civil_of t).date && is_clock (civil_of t) then Some (seconds_of (civil_of t)) else None
 
--- 0001-01-01T00:00:00Z and 9999-12-31T23:59:59Z.
+-- 0001-01-01T00:00:00Z.
 abbrev pub first_second : ℤ
 first_second = neg_ℤ (pos 62135596800)
 
+-- 9999-12-31T23:59:59Z.
 abbrev pub last_second : ℤ
 last_second = pos 253402300799
 

@@ -1,5 +1,7 @@
 -- Objects of the seven kinds that are read, and the events that put and remove them.
-use Rattle.std.specs.Prelude.{ℕ, ℤ, List, codes}
+use Rattle.std.specs.Prelude.{ℤ}
+use Rattle.gw_text.specs.declared.kind.Kind.{Kind}
+use Rattle.gw_text.specs.declared.kind.Kind.TheVariants as kinds
 use Rattle.gw_text.specs.model.Names.{Key}
 use Rattle.gw_text.specs.model.GatewayClasses.{GatewayClass}
 use Rattle.gw_text.specs.model.Gateways.{Gateway}
@@ -8,16 +10,6 @@ use Rattle.gw_text.specs.model.Namespaces.{Namespace}
 use Rattle.gw_text.specs.model.Routes.{HttpRoute}
 use Rattle.gw_text.specs.model.Services.{Service}
 use Rattle.gw_text.specs.model.Slices.{EndpointSlice}
-
--- The kinds, in the order in which they are listed.
-pub data Kind : Type 0 where
-  class_kind : Kind
-  gateway_kind : Kind
-  route_kind : Kind
-  grant_kind : Kind
-  namespace_kind : Kind
-  service_kind : Kind
-  slice_kind : Kind
 
 -- An object of one of the kinds.
 pub data Object : Type 0 where
@@ -40,12 +32,22 @@ pub record Change : Type 0 where
   pub event : Event
   pub at : ℤ
 
--- The name of a kind. Source: TypeMeta of the Kubernetes API.
-abbrev pub kind_text : Kind → List ℕ
-kind_text class_kind = codes "GatewayClass"
-kind_text gateway_kind = codes "Gateway"
-kind_text route_kind = codes "HTTPRoute"
-kind_text grant_kind = codes "ReferenceGrant"
-kind_text namespace_kind = codes "Namespace"
-kind_text service_kind = codes "Service"
-kind_text slice_kind = codes "EndpointSlice"
+-- The kind of an object.
+abbrev pub object_kind : Object → Kind
+object_kind (a_class x) = kinds.GatewayClass
+object_kind (a_gateway x) = kinds.Gateway
+object_kind (a_route x) = kinds.HttpRoute
+object_kind (a_grant x) = kinds.ReferenceGrant
+object_kind (a_namespace x) = kinds.Namespace
+object_kind (a_service x) = kinds.Service
+object_kind (a_slice x) = kinds.EndpointSlice
+
+-- The key of an object.
+abbrev pub object_key : Object → Key
+object_key (a_class x) = x.meta.key
+object_key (a_gateway x) = x.meta.key
+object_key (a_route x) = x.meta.key
+object_key (a_grant x) = x.meta.key
+object_key (a_namespace x) = x.meta.key
+object_key (a_service x) = x.meta.key
+object_key (a_slice x) = x.meta.key

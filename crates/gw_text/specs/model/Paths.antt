@@ -3,6 +3,7 @@ use Rattle.std.specs.Prelude.{◌≡◌, ℕ, Bool, List, [], ◌∷◌, ◌++�
 use Rattle.std.specs.List.{slice_split, starts_with, ends_with}
 use Rattle.std.specs.Str.{bytes_eq}
 
+-- The byte `/`.
 abbrev pub SLASH : ℕ
 SLASH = 47
 

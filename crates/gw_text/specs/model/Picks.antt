@@ -4,7 +4,7 @@ use Rattle.std.specs.Prelude.{◌≡◌, ℕ, ◌+◌, ◌*◌, ◌%◌, ◌<◌
 use Rattle.std.specs.List.{range_with_len, list_all}
 use Rattle.std.specs.Map.{lookup}
 use Rattle.std.specs.Str.{bytes_eq}
-use Rattle.gw_text.specs.model.Names.{Key}
+use Rattle.gw_text.specs.model.Names.{Key, same_key}
 
 -- What i claims after k picks, of which n i were its own: (k + 1) * w_i - n_i * W, W being the sum of the weights.
 abbrev pub claim : List ℕ → ℕ → (ℕ → ℕ) → ℕ → ℤ
@@ -22,6 +22,7 @@ pub record Shares : Type 0 where
   pub weights : List ℕ
   pub drawn : List ℕ
 
+-- A number 0 for each weight.
 abbrev pub zeros : List ℕ → List ℕ
 zeros weights = replicate (length weights) 0
 
@@ -71,9 +72,9 @@ pub record Choice : Type 0 where
   pub number : ℕ
   pub weights : List ℕ
 
+-- Two choices are the same where their keys, numbers and weights are.
 abbrev pub same_choice : Choice → Choice → Bool
-same_choice c d =
-    bytes_eq c.name.namespace d.name.namespace && bytes_eq c.name.name d.name.name && c.number == d.number && bytes_eq c.weights d.weights
+same_choice c d = same_key c.name d.name && c.number == d.number && bytes_eq c.weights d.weights
 
 -- Whether a book, the list of its choices with their numbers, keeps numbers of a choice.
 abbrev pub holds : Choice → List (Choice × List ℕ) → Bool
@@ -96,5 +97,6 @@ with_room c book = if holds c book || nat_lt (length book) 4096 then book else [
 abbrev pub drawn_from : Choice → List (Choice × List ℕ) → Option ℕ
 drawn_from c book = pick c.weights (numbers_of c book)
 
+-- The book after a pick of a choice.
 abbrev pub after_draw : Choice → List (Choice × List ℕ) → List (Choice × List ℕ)
 after_draw c book = with_numbers c (after_pick c.weights (numbers_of c book) (drawn_from c book)) (with_room c book)

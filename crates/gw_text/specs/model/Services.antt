@@ -10,6 +10,7 @@ pub record ServicePort : Type 0 where
   pub protocol : List ℕ
   pub app_protocol : Option (List ℕ)
 
+-- A Service.
 pub record Service : Type 0 where
   pub meta : Meta
   -- whether its type is ExternalName

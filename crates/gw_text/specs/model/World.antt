@@ -1,48 +1,56 @@
 -- The objects that are held after a list of changes. Source: list and watch of the Kubernetes API.
-use Rattle.std.specs.Prelude.{ℕ, ℤ, ◌+◌, ◌^◌, List, [], ◌++◌, length, codes, Bool, true, false, not, ◌&&◌, ◌||◌, nat_eq, nat_le, fold, filter, is_some}
-use Rattle.std.specs.List.{starts_with}
-use Rattle.gw_text.specs.model.Names.{joined}
+use Rattle.std.specs.Prelude.{ℕ, ℤ, ◌+◌, ◌^◌, List, [], length, Bool, true, false, not, ◌&&◌, ◌||◌, nat_le, fold, is_some, Option}
+use Rattle.std.specs.Option.{option_map_or}
+use Rattle.gw_text.specs.model.Names.{Key, cluster_key}
 use Rattle.gw_text.specs.model.GatewayClasses.{GatewayClass}
 use Rattle.gw_text.specs.model.Gateways.{Gateway}
 use Rattle.gw_text.specs.model.Grants.{ReferenceGrant}
-use Rattle.gw_text.specs.model.Namespaces.{Namespace}
+use Rattle.gw_text.specs.model.Namespaces.{Namespace, with_own_name}
 use Rattle.gw_text.specs.model.Routes.{HttpRoute}
 use Rattle.gw_text.specs.model.Services.{Service}
 use Rattle.gw_text.specs.model.Slices.{EndpointSlice}
-use Rattle.gw_text.specs.model.Objects.{Kind, class_kind, gateway_kind, route_kind, grant_kind, namespace_kind, service_kind, slice_kind, Object, a_class, a_gateway, a_route, a_grant, a_namespace, a_service, a_slice, Event, puts, removes, Change}
-use Rattle.gw_text.specs.model.Held.{Held, held_of, put, remove}
+use Rattle.gw_text.specs.declared.kind.Kind.{Kind}
+use Rattle.gw_text.specs.declared.kind.Kind.TheVariants as kinds
+use Rattle.gw_text.specs.model.Objects.{Object, object_kind, object_key, a_class, a_gateway, a_route, a_grant, a_namespace, a_service, a_slice, Event, puts, removes, Change}
+use Rattle.gw_text.specs.model.Stored.{Stored, stored_at, put, remove, in_namespace}
 
--- The text by which the objects of each kind are ordered: `namespace/name`, or the name alone.
-abbrev pub class_key : GatewayClass → List ℕ
-class_key c = joined c.meta.key
+-- The key of a GatewayClass.
+abbrev pub class_key : GatewayClass → Key
+class_key c = c.meta.key
 
-abbrev pub gateway_key : Gateway → List ℕ
-gateway_key g = joined g.meta.key
+-- The key of a Gateway.
+abbrev pub gateway_key : Gateway → Key
+gateway_key g = g.meta.key
 
-abbrev pub route_key : HttpRoute → List ℕ
-route_key r = joined r.meta.key
+-- The key of an HTTPRoute.
+abbrev pub route_key : HttpRoute → Key
+route_key r = r.meta.key
 
-abbrev pub grant_key : ReferenceGrant → List ℕ
-grant_key g = joined g.meta.key
+-- The key of a ReferenceGrant.
+abbrev pub grant_key : ReferenceGrant → Key
+grant_key g = g.meta.key
 
-abbrev pub namespace_key : Namespace → List ℕ
-namespace_key n = joined n.meta.key
+-- The key of a Namespace.
+abbrev pub namespace_key : Namespace → Key
+namespace_key n = n.meta.key
 
-abbrev pub service_key : Service → List ℕ
-service_key s = joined s.meta.key
+-- The key of a Service.
+abbrev pub service_key : Service → Key
+service_key s = s.meta.key
 
-abbrev pub slice_key : EndpointSlice → List ℕ
-slice_key s = joined s.meta.key
+-- The key of an EndpointSlice.
+abbrev pub slice_key : EndpointSlice → Key
+slice_key s = s.meta.key
 
 -- The held objects, kind by kind, each in key order, and the number of the changes that led here.
 pub record World : Type 0 where
-  pub classes : List (Held GatewayClass)
-  pub gateways : List (Held Gateway)
-  pub routes : List (Held HttpRoute)
-  pub grants : List (Held ReferenceGrant)
-  pub namespaces : List (Held Namespace)
-  pub services : List (Held Service)
-  pub slices : List (Held EndpointSlice)
+  pub classes : List (Stored GatewayClass)
+  pub gateways : List (Stored Gateway)
+  pub routes : List (Stored HttpRoute)
+  pub grants : List (Stored ReferenceGrant)
+  pub namespaces : List (Stored Namespace)
+  pub services : List (Stored Service)
+  pub slices : List (Stored EndpointSlice)
   pub changes : ℕ
 
 -- Nothing is held.
@@ -60,19 +68,19 @@ put_object w (a_service x) at = record w { services = put service_key x at w.ser
 put_object w (a_slice x) at = record w { slices = put slice_key x at w.slices }
 
 -- A removal takes away the object of the kind and key, if there is one.
-abbrev pub remove_key : World → Kind → List ℕ → World
-remove_key w class_kind key = record w { classes = remove class_key key w.classes }
-remove_key w gateway_kind key = record w { gateways = remove gateway_key key w.gateways }
-remove_key w route_kind key = record w { routes = remove route_key key w.routes }
-remove_key w grant_kind key = record w { grants = remove grant_key key w.grants }
-remove_key w namespace_kind key = record w { namespaces = remove namespace_key key w.namespaces }
-remove_key w service_kind key = record w { services = remove service_key key w.services }
-remove_key w slice_kind key = record w { slices = remove slice_key key w.slices }
+abbrev pub remove_key : World → Kind → Key → World
+remove_key w kinds.GatewayClass key = record w { classes = remove class_key key w.classes }
+remove_key w kinds.Gateway key = record w { gateways = remove gateway_key key w.gateways }
+remove_key w kinds.HttpRoute key = record w { routes = remove route_key key w.routes }
+remove_key w kinds.ReferenceGrant key = record w { grants = remove grant_key key w.grants }
+remove_key w kinds.Namespace key = record w { namespaces = remove namespace_key key w.namespaces }
+remove_key w kinds.Service key = record w { services = remove service_key key w.services }
+remove_key w kinds.EndpointSlice key = record w { slices = remove slice_key key w.slices }
 
 -- The objects after an event.
 abbrev pub changed : World → Event → ℤ → World
 changed w (puts object) at = put_object w object at
-changed w (removes kind key) at = remove_key w kind (joined key)
+changed w (removes kind key) at = remove_key w kind key
 
 -- One change more.
 abbrev pub apply : World → Change → World
@@ -82,13 +90,15 @@ apply w c = record (changed w c.event c.at) { changes = w.changes + 1 }
 abbrev pub after_changes : World → List Change → World
 after_changes w changes = fold apply w changes
 
+-- The world after changes, from nothing.
 abbrev pub world_of : List Change → World
 world_of changes = after_changes nothing changes
 
--- The most objects, and the most HTTPRoutes of them, that are held.
+-- The most objects that are held.
 abbrev pub most_objects : ℕ
 most_objects = 65536
 
+-- The most HTTPRoutes of them.
 abbrev pub most_routes : ℕ
 most_routes = 16384
 
@@ -96,43 +106,64 @@ most_routes = 16384
 abbrev pub object_count : World → ℕ
 object_count w = length w.classes + length w.gateways + length w.routes + length w.grants + length w.namespaces + length w.services + length w.slices
 
--- Something is held under the object's kind and key.
-abbrev pub is_held : World → Object → Bool
-is_held w (a_class x) = is_some (held_of class_key (class_key x) w.classes)
-is_held w (a_gateway x) = is_some (held_of gateway_key (gateway_key x) w.gateways)
-is_held w (a_route x) = is_some (held_of route_key (route_key x) w.routes)
-is_held w (a_grant x) = is_some (held_of grant_key (grant_key x) w.grants)
-is_held w (a_namespace x) = is_some (held_of namespace_key (namespace_key x) w.namespaces)
-is_held w (a_service x) = is_some (held_of service_key (service_key x) w.services)
-is_held w (a_slice x) = is_some (held_of slice_key (slice_key x) w.slices)
+-- Something is held under the kind and key.
+abbrev pub is_held : World → Kind → Key → Bool
+is_held w kinds.GatewayClass key = is_some (stored_at class_key key w.classes)
+is_held w kinds.Gateway key = is_some (stored_at gateway_key key w.gateways)
+is_held w kinds.HttpRoute key = is_some (stored_at route_key key w.routes)
+is_held w kinds.ReferenceGrant key = is_some (stored_at grant_key key w.grants)
+is_held w kinds.Namespace key = is_some (stored_at namespace_key key w.namespaces)
+is_held w kinds.Service key = is_some (stored_at service_key key w.services)
+is_held w kinds.EndpointSlice key = is_some (stored_at slice_key key w.slices)
 
--- The object is an HTTPRoute.
-abbrev pub is_route : Object → Bool
-is_route (a_class x) = false
-is_route (a_gateway x) = false
-is_route (a_route x) = true
-is_route (a_grant x) = false
-is_route (a_namespace x) = false
-is_route (a_service x) = false
-is_route (a_slice x) = false
+-- HTTPRoutes have a limit of their own.
+abbrev pub is_route_kind : Kind → Bool
+is_route_kind kinds.GatewayClass = false
+is_route_kind kinds.Gateway = false
+is_route_kind kinds.HttpRoute = true
+is_route_kind kinds.ReferenceGrant = false
+is_route_kind kinds.Namespace = false
+is_route_kind kinds.Service = false
+is_route_kind kinds.EndpointSlice = false
 
 -- As many objects, or HTTPRoutes, are held as can be.
-abbrev pub has_no_room : World → Object → Bool
-has_no_room w object = nat_le most_objects (object_count w) || (is_route object && nat_le most_routes (length w.routes))
+abbrev pub has_no_room : World → Kind → Bool
+has_no_room w kind = nat_le most_objects (object_count w) || (is_route_kind kind && nat_le most_routes (length w.routes))
 
 -- A put of a new key for which there is no room.
 abbrev pub is_one_too_many : World → Event → Bool
-is_one_too_many w (puts object) = not (is_held w object) && has_no_room w object
+is_one_too_many w (puts object) = not (is_held w (object_kind object) (object_key object)) && has_no_room w (object_kind object)
 is_one_too_many w (removes kind key) = false
 
 -- No change is taken that holds one object too many, or whose number would no longer be one of 64 bits.
 unfoldable pub is_full : World → Event → Bool
 is_full w event = is_one_too_many w event || nat_le (2 ^ 64) (w.changes + 1)
 
--- The object of this key stands in a namespace: the key's text begins with it and a slash.
-abbrev pub is_in_namespace : List ℕ → List ℕ → Bool
-is_in_namespace namespace key = starts_with nat_eq key (namespace ++ codes "/")
+-- The class of a Gateway, if it is held: the one that it names.
+abbrev pub class_at : World → List ℕ → Option (Stored GatewayClass)
+class_at w name = stored_at class_key (cluster_key name) w.classes
 
--- The objects of a namespace.
-abbrev pub in_namespace : {T : Type 0} → (T → List ℕ) → List ℕ → List (Held T) → List (Held T)
-in_namespace key namespace held = filter (λ h. is_in_namespace namespace (key h.object)) held
+-- The Gateway of a key, if it is held.
+abbrev pub gateway_at : World → Key → Option (Stored Gateway)
+gateway_at w key = stored_at gateway_key key w.gateways
+
+-- The HTTPRoute of a key, if it is held.
+abbrev pub route_at : World → Key → Option (Stored HttpRoute)
+route_at w key = stored_at route_key key w.routes
+
+-- The Service of a key, if it is held.
+abbrev pub service_at : World → Key → Option (Stored Service)
+service_at w key = stored_at service_key key w.services
+
+-- The ReferenceGrants of a namespace.
+abbrev pub grants_in : World → List ℕ → List (Stored ReferenceGrant)
+grants_in w namespace = in_namespace grant_key namespace w.grants
+
+-- The EndpointSlices of a namespace.
+abbrev pub slices_in : World → List ℕ → List (Stored EndpointSlice)
+slices_in w namespace = in_namespace slice_key namespace w.slices
+
+-- The labels of a namespace: those of its object, and without one its own name alone.
+abbrev pub namespace_labels : World → List ℕ → List (List ℕ × List ℕ)
+namespace_labels w namespace =
+    option_map_or (λ s. s.object.labels) (stored_at namespace_key (cluster_key namespace) w.namespaces) (with_own_name namespace [])

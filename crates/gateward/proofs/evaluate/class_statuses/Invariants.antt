@@ -1,6 +1,6 @@
 -- The statuses so far are those of the classes so far.
 use Rattle.std.proofs.Common.{◌≡◌, ◌++◌, drop, map, filter}
-use Rattle.gw_text.specs.model.Held.{objects_of}
+use Rattle.gw_text.specs.model.Stored.{objects_of}
 use Rattle.gw_text.specs.model.Statuses.{is_ours, class_status_of}
 use Rattle.gateward.proofs.evaluate.class_statuses.Given as goal
 

@@ -1,10 +1,12 @@
 -- The statuses so far are those of the Gateways so far.
 use Rattle.std.proofs.Common.{◌≡◌, ◌++◌, drop, map, filter}
-use Rattle.gw_text.specs.model.Held.{objects_of}
+use Rattle.gw_text.specs.model.Stored.{objects_of}
 use Rattle.gw_text.specs.model.Statuses.{is_managed, gateway_status_of}
 use Rattle.gateward.proofs.evaluate.gateway_statuses.Given as goal
 
 abbrev pub invariant-gateways : goal.invariant-gateways
 invariant-gateways l =
-    l.all ++ map (gateway_status_of l.setting.doors) (filter (is_managed l.setting.controller l.world.world) (objects_of (drop l.gateway-index l.gateway-items)))
-    ≡ map (gateway_status_of l.setting.doors) (filter (is_managed l.setting.controller l.world.world) (objects_of l.world.world.gateways))
+    l.all ++ map (gateway_status_of l.setting.doors l.setting.controller l.world.world)
+    (filter (is_managed l.setting.controller l.world.world) (objects_of (drop l.gateway-index l.gateway-items)))
+    ≡ map (gateway_status_of l.setting.doors l.setting.controller l.world.world)
+    (filter (is_managed l.setting.controller l.world.world) (objects_of l.world.world.gateways))

@@ -1,10 +1,9 @@
 -- The statuses so far, and then those of the rest, are those of all.
-use Rattle.std.proofs.Common.{◌≡◌, ◌++◌, map}
-use Rattle.gw_listener.specs.Seen.{seen_state}
-use Rattle.gw_text.specs.model.Statuses.{listener_statuses_of}
+use Rattle.std.proofs.Common.{◌≡◌, ◌++◌, map, zip}
+use Rattle.gw_text.specs.model.Statuses.{listener_status_of}
 use Rattle.gateward.proofs.evaluate.listener_statuses.Given as goal
 
 abbrev pub invariant-listeners : goal.invariant-listeners
 invariant-listeners l =
-    l.all ++ listener_statuses_of l.listener-iterator.a.rest.now (map seen_state l.listener-iterator.b.rest.now)
-    ≡ listener_statuses_of l.listeners (map seen_state l.states)
+    l.all ++ map listener_status_of (zip l.listener-iterator.a.rest.now l.listener-iterator.b.rest.now)
+    ≡ map listener_status_of (zip l.listeners l.states)

@@ -1,4 +1,4 @@
--- What is answered so far, and then the lines of the rest, is what all lines are answered.
+-- What came of the lines so far, and then of the rest, is what comes of all.
 use Rattle.std.proofs.Common.{ℤ, ◌+◌, ◌≤◌, List, length, Option}
 use Rattle.std.specs.Option.{option_copied}
 use Rattle.gateward.specs.Lines.{lines_of, lines_left}

@@ -8,7 +8,7 @@ returns g c =
     let report = c.in_ok-report.ensures in
     record {
       moments = report.moments;
-      asked = record { after = _; asked = report.asked; each = report.each };
+      one_each = record { after = _; in_turn = report.in_turn; each = report.each };
       text = c.in_ok-text.ensures ∙ text_told c.args.setting.now _ _ report.tells;
       refused = ap (λ n. nat_lt 0 n) report.tells.refused;
     }

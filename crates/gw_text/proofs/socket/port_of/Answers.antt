@@ -1,5 +1,5 @@
 use Rattle.std.proofs.Common.{◌∙◌, rules}
-use Rattle.gw_text.proofs.Ports.{port_parsed}
+use Rattle.gw_text.proofs.Decimals.{port_parsed}
 use Rattle.gw_text.proofs.socket.port_of.Goals as goal
 
 pub returns : goal.returns

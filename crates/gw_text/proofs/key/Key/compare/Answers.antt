@@ -1,16 +1,14 @@
-use Rattle.std.proofs.Common.{◌≡◌, refl, rules}
-use Rattle.std.specs.Ordering.{nat_cmp}
-use Rattle.std.proofs.lemmas.Iterator.{YieldsList-from_slice}
-use Rattle.std.proofs.lemmas.Iterator.Consumers.{YieldsList-from_chain}
-use Rattle.std.proofs.lemmas.Iterator.Search.{cmp_from_yields_List}
-use Rattle.gw_text.specs.model.Names.{separator}
+-- By the order in which keys with one text are one key.
+use Rattle.std.proofs.Common.{◌≡◌, rules}
+use Rattle.gw_text.specs.model.Names.{key_order}
+use Rattle.gw_text.proofs.Keys.{order_by_name, equal_exactly}
 use Rattle.gw_text.proofs.key.Key.compare.Goals as goal
 
-pub returns : goal.returns
-returns c =
-    let left = c.args.self.now in
-    let right = c.args.other.now in
-    cmp_from_yields_List (λ other it. it ≡ other) _ nat_cmp _ c.cmp.ensures.ran
-    (YieldsList-from_chain (YieldsList-from_chain (YieldsList-from_slice left.namespace (search rules)) (YieldsList-from_slice (separator left.namespace) (search rules)) (search rules) (search rules)) (YieldsList-from_slice left.name (search rules)) (search rules) (search rules))
-    (λ it e. rw e (YieldsList-from_chain (YieldsList-from_chain (YieldsList-from_slice right.namespace (search rules)) (YieldsList-from_slice (separator right.namespace) (search rules)) (search rules) (search rules)) (YieldsList-from_slice right.name (search rules)) (search rules) (search rules)))
-    (λ x y. refl)
+pub returns-then-is_beside-clause-equal : goal.returns-then-is_beside-clause-equal
+returns-then-is_beside-clause-equal c =
+    let order : c.cmp.result ≡ key_order c.args.self.now c.args.other.now = search (rules, order_by_name)
+    in equal_exactly c.args.self.now c.args.other.now c.cmp.result c.is_beside.ensures.own_form c.is_beside.ensures.other_form order
+
+pub returns-else-is_beside-clause-equal : goal.returns-else-is_beside-clause-equal
+returns-else-is_beside-clause-equal c =
+    equal_exactly c.args.self.now c.args.other.now c.compare_texts.result c.is_beside.ensures.own_form c.is_beside.ensures.other_form c.compare_texts.ensures

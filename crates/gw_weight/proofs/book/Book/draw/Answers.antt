@@ -5,7 +5,7 @@ use Rattle.std.specs.Map.{lookup}
 use Rattle.gw_text.specs.model.Picks.{Choice as Plain, after_pick, holds, pick, with_numbers}
 use Rattle.gw_weight.specs.Books.{choice_of, entry_of, HasRoomFor, IsBookOf}
 use Rattle.gw_weight.specs.contracts.choice.ChoicePartialEq.TheImpl.{ghosts}
-use Rattle.gw_weight.proofs.Entries.{Found-in, New-in, after-found, after-new, asked-same_choice, drawn_from-new, either, held-room, more-IsBookOf, own-room, position-Found, room-seen, written-Kept}
+use Rattle.gw_weight.proofs.Entries.{Found-in, New-in, after-found, after-new, asked-same_choice, drawn_from-new, either, fair-found, fair-new, held-room, more-IsBookOf, own-room, position-Found, room-seen, written-Kept}
 use Rattle.gw_weight.proofs.book.Book.draw.Goals as goal
 
 pub returns-in_err-ask-clause-known : goal.returns-in_err-ask-clause-known
@@ -85,3 +85,25 @@ returns-clause-known c held =
     let absent : is_some (lookup (ghosts.eq asked) c.self.inside.shares.entries) ≡ false = sym c.in_default.ensures.found in
     let new = New-in ch (ghosts.eq asked) (asked-same_choice asked ch c.in_ok-ask.ensures.ok) c.self.inside.shares.entries c.args.self.now absent c.self.view_is in
     absurd (true≢false (sym held ∙ new.held))
+
+pub returns-in-Some-clause-fair : goal.returns-in-Some-clause-fair
+returns-in-Some-clause-fair c =
+    let ch : Plain = record { name = c.args.name.now; number = c.args.number; weights = c.args.weights.now } in
+    let es = c.self.inside.shares.entries in
+    let asked = c.ask.new.choice in
+    let agrees = asked-same_choice asked ch c.in_ok-ask.ensures.ok in
+    let f = position-Found ch (ghosts.eq asked) agrees es c.in-Some.place asked (sym c.in-Some.ensures.index) in
+    let drawn = rw f.value at c.draw_at.ensures in
+    let found = Found-in ch (ghosts.eq asked) agrees es c.in-Some.place c.self.inside.asked c.args.self.now c.self.invariant f c.self.view_is in
+    let numbers = after_pick f.shares.weights f.shares.drawn c.draw_at.result in
+    fair-found ch c.args.self.now _ f.shares c.draw_at.result found
+    (ap (map entry_of) drawn.1 ∙ f.written (record f.shares { drawn = numbers }) ∙ ap (with_numbers ch numbers) c.self.view_is) drawn.2
+
+pub returns-clause-fair : goal.returns-clause-fair
+returns-clause-fair c =
+    let ch : Plain = record { name = c.args.name.now; number = c.args.number; weights = c.args.weights.now } in
+    let asked = c.ask.new.choice in
+    let absent : is_some (lookup (ghosts.eq asked) c.self.inside.shares.entries) ≡ false = sym c.in_default.ensures.found in
+    let new = New-in ch (ghosts.eq asked) (asked-same_choice asked ch c.in_ok-ask.ensures.ok) c.self.inside.shares.entries c.args.self.now absent c.self.view_is in
+    fair-new (choice_of asked) ch (map entry_of c.make_room.new.shares.entries) (map entry_of c.draw_new.new.shares.entries) c.args.self.now c.draw_new.result c.in_ok-ask.ensures.ok new
+    c.draw_new.ensures.pick c.draw_new.ensures.after c.draw_new.ensures.fair

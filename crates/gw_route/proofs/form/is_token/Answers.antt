@@ -1,5 +1,0 @@
-use Rattle.gw_route.proofs.FormLemmas.{token_is}
-use Rattle.gw_route.proofs.form.is_token.Goals as goal
-
-pub returns : goal.returns
-returns c = token_is c.is_token.result c.args.text.now c.is_token.ensures
