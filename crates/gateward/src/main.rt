@@ -2,7 +2,6 @@
 //! statuses of the objects that are held after them.
 #![tactic(auto)]
 
-mod evaluate;
 mod fault;
 mod lines;
 mod outside;

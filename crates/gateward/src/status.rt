@@ -6,10 +6,10 @@ ghost use Rattle.gw_json.specs.Lines.{line_of};
 ghost use Rattle.gateward.specs.RunText.{summary_data};
 ghost use Rattle.gateward.specs.Outputs.{IsOutput};
 
-use crate::evaluate::statuses;
 use crate::print::summary_value;
 use crate::report::{Report, apply_lines};
 use crate::start::Setting;
+use gw_eval::evaluate;
 use gw_json::push_line;
 use gw_link::{Clock, MOST_INPUT};
 use gw_status::write_statuses;
@@ -47,7 +47,7 @@ fn report_text(alloc: Global, setting: &Setting, report: Report) -> Result<Text,
         ++ statuses_text (statuses_of setting.now.doors setting.now.controller report.world.world)
         ++ line_of (summary_data report.world.world.changes report.refused report.skipped)) }
 {
-    let statuses = statuses(alloc, setting, &report.world)?;
+    let statuses = evaluate(alloc, &report.world, &setting.doors, &setting.controller)?;
     let statuses = write_statuses(alloc, &statuses)?;
     let summary = summary_line(alloc, &report)?;
     let mut text = report.text.into_bytes();

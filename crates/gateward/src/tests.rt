@@ -4,6 +4,7 @@ use gw_link::{MemClock, MemSink, MemSource};
 use std::alloc::{AllocError, Global};
 use std::test::*;
 
+mod attachment;
 mod edge;
 mod faults;
 mod limits;

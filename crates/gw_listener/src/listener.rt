@@ -1,25 +1,15 @@
 ghost use Rattle.std.specs.Prelude.{◌≡◌, ℕ, IfOk};
-ghost use Rattle.std.specs.List.{list_any};
 ghost use Rattle.gw_text.specs.model.Hostnames.{same_hostname};
 ghost use Rattle.gw_text.specs.model.Listeners as rules;
 
 use crate::address::has_address_fault;
-use gw_objects::{Gateway, Listener, RouteKind};
+use gw_objects::{Gateway, Listener};
 use gw_status::{CondKind, Condition, ListenerState, Reason};
-use gw_text::{Doors, GATEWAY_GROUP, Host, List, NoMemory, Protocol};
+use gw_text::{Doors, Host, List, NoMemory, Protocol};
 use std::alloc::Global;
 
 /// The states of a Gateway's listeners, in list order.
 pub type ListenerStates = List<ListenerState>;
-
-fn is_http(listener: &Listener) -> bool
-    ensures { result ≡ rules.is_http listener.now }
-{
-    match &listener.protocol {
-        Protocol::Http => true,
-        Protocol::Https | Protocol::Tls | Protocol::Tcp | Protocol::Other(_) => false,
-    }
-}
 
 fn is_over_tcp(listener: &Listener) -> bool
     ensures { result ≡ rules.is_over_tcp listener.now }
@@ -45,7 +35,7 @@ fn have_protocol_conflict(listener: &Listener, other: &Listener) -> bool
     ensures { result ≡ rules.have_protocol_conflict listener.now other.now }
 {
     listener.port == other.port
-        && (is_http(listener) && is_over_tcp(other) || is_over_tcp(listener) && is_http(other))
+        && (listener.is_http() && is_over_tcp(other) || is_over_tcp(listener) && other.is_http())
 }
 
 // Two HTTP listeners on one port with one hostname.
@@ -53,8 +43,8 @@ fn have_hostname_conflict(listener: &Listener, other: &Listener) -> bool
     ensures { result ≡ rules.have_hostname_conflict listener.now other.now }
 {
     listener.port == other.port
-        && is_http(listener)
-        && is_http(other)
+        && listener.is_http()
+        && other.is_http()
         && have_same_hostname(&listener.hostname, &other.hostname)
 }
 
@@ -85,38 +75,16 @@ fn conflicted(gateway: &Gateway, place: usize, listener: &Listener) -> Condition
     }
 }
 
-#[tactic(auto, unfolding(gw_text::specs::model::Kinds::gateway_group))]
-fn is_http_route(kind: &RouteKind) -> bool
-    ensures { result ≡ rules.is_http_route kind.now }
-{
-    kind.group.bytes() == GATEWAY_GROUP.as_bytes() && kind.kind.bytes() == b"HTTPRoute".as_slice()
-}
-
-fn names_http_route(kinds: &[RouteKind]) -> bool
-    ensures { result ≡ list_any rules.is_http_route kinds.now }
-{
-    kinds.iter().any(is_http_route)
-}
-
-// Whether HTTPRoute is a supported kind of the listener.
-#[tactic(auto, unfolding(gw_text::specs::model::Listeners::supports_http_route))]
-fn supports_http_route(listener: &Listener) -> bool
-    ensures { result ≡ rules.supports_http_route listener.now }
-{
-    let kinds = listener.allowed_routes.kinds.as_slice();
-    is_http(listener) && (kinds.is_empty() || names_http_route(kinds))
-}
-
 #[tactic(auto, unfolding(gw_text::specs::model::Listeners::has_unsupported_kind))]
 fn has_unsupported_kind(listener: &Listener) -> bool
     ensures { result ≡ rules.has_unsupported_kind listener.now }
 {
-    let http = is_http(listener);
+    let http = listener.is_http();
     listener
         .allowed_routes
         .kinds
         .iter()
-        .any(|kind| !(http && is_http_route(kind)))
+        .any(|kind| !(http && kind.is_http_route()))
 }
 
 // Accepted of the listener whose Conflicted is known.
@@ -132,7 +100,7 @@ fn accepted(
 {
     if conflicted.truth {
         Condition::false_by(CondKind::Accepted, conflicted.reason)
-    } else if !is_http(listener) {
+    } else if !listener.is_http() {
         Condition::false_by(CondKind::Accepted, Reason::UnsupportedProtocol)
     } else if !doors.has_port(&gateway.meta.key, listener.port) {
         Condition::false_by(CondKind::Accepted, Reason::PortUnavailable)
@@ -163,7 +131,7 @@ fn programmed(
     ensures { (place : ℕ) → accepted ≡ rules.listener_accepted_of doors.now gateway.now place listener.now →
         result ≡ rules.listener_programmed_of doors.now gateway.now place listener.now }
 {
-    if accepted.truth && supports_http_route(listener) && !has_address_fault(doors, gateway) {
+    if accepted.truth && listener.supports_http_route() && !has_address_fault(doors, gateway) {
         Condition::true_by(CondKind::Programmed, Reason::Programmed)
     } else {
         Condition::false_by(CondKind::Programmed, Reason::Invalid)
@@ -186,7 +154,7 @@ fn listener_state(
         conflicted,
         resolved: resolved(listener),
         programmed: programmed(doors, gateway, listener, accepted),
-        http: supports_http_route(listener),
+        http: listener.supports_http_route(),
     }
 }
 

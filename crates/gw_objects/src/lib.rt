@@ -13,12 +13,13 @@ mod routes;
 mod selector;
 mod service;
 mod slice;
+mod supported;
 
 pub use class::{GatewayClass, read_class};
 pub use gateway::{Address, Gateway, Listener, read_gateway};
 pub use grant::{GrantFrom, GrantTo, ReferenceGrant, read_grant};
 pub use meta::{read_key, read_meta};
-pub use namespace::{Namespace, read_namespace};
+pub use namespace::{Namespace, labels_by_name, read_namespace};
 pub use routes::{AllowedRoutes, RouteKind};
 pub use service::{Service, ServicePort, read_service};
 pub use slice::{Endpoint, EndpointPort, EndpointSlice, read_slice};

@@ -1,1 +1,2 @@
 pub mod FieldNames
+pub mod Lists

@@ -5,3 +5,4 @@ pub mod SeenFilter
 pub mod Filters
 pub mod Backends
 pub mod Routes
+pub mod Reasons

@@ -8,10 +8,14 @@ mod filter;
 mod matching;
 mod parent;
 mod plain;
+mod reason;
 mod route;
+mod support;
 
 pub use plain::{
     BackendRef, Edits, Filter, HeaderMatch, HttpRoute, Match, ParentRef, PathMatch, PathModifier,
     QueryParamMatch, Redirect, Rewrite, Rule,
 };
+pub use reason::RouteReason;
 pub use route::read_route;
+pub use support::unsupported;

@@ -1,7 +1,8 @@
 -- The text of all statuses, as JSON with the keys of each object in byte order. Source: Condition of the Kubernetes API;
--- GatewayClassStatus, GatewayStatus, GatewayStatusAddress, ListenerStatus and RouteGroupKind of the Gateway API reference.
+-- GatewayClassStatus, GatewayStatus, GatewayStatusAddress, ListenerStatus, RouteGroupKind, RouteStatus, RouteParentStatus and
+-- ParentReference of the Gateway API reference.
 use Rattle.std.specs.Prelude.{ℕ, List, [], ◌∷◌, ◌++◌, codes, Bool, true, false, Option, Some, None, map, flat_map}
-use Rattle.serde_json.specs.Data.{Data, string, array, object, member, no_members}
+use Rattle.serde_json.specs.Data.{Data, number, unsigned, string, array, object, member, no_members, Members, put}
 use Rattle.serde_json.specs.View.{items_of}
 use Rattle.gw_json.specs.Lines.{line_of}
 use Rattle.gw_text.specs.model.Forms.{printed}
@@ -9,7 +10,7 @@ use Rattle.gw_text.specs.model.Conditions.{Condition, condition_kind_text, reaso
 use Rattle.gw_text.specs.model.Addresses.{Socket, address_text}
 use Rattle.gw_text.specs.model.Kinds.{gateway_group}
 use Rattle.gw_text.specs.model.Listeners.{ListenerState, GatewayState}
-use Rattle.gw_text.specs.model.Statuses.{ClassStatus, ListenerStatus, GatewayStatus, Statuses}
+use Rattle.gw_text.specs.model.Statuses.{ClassStatus, ListenerStatus, GatewayStatus, ParentStatus, RouteStatus, Statuses}
 
 -- The status of a condition. Source: ConditionStatus.
 abbrev pub truth_text : Bool → List ℕ
@@ -60,9 +61,10 @@ supported_kinds false = []
 -- A listener.
 unfoldable pub listener_data : ListenerStatus → Data
 listener_data s =
-    object (member (codes "conditions") (conditions_data (listener_conditions s.state))
+    object (member (codes "attachedRoutes") (number (unsigned s.attached))
+    (member (codes "conditions") (conditions_data (listener_conditions s.state))
     (member (codes "name") (string (printed s.name))
-    (member (codes "supportedKinds") (array (items_of (supported_kinds s.state.http))) no_members)))
+    (member (codes "supportedKinds") (array (items_of (supported_kinds s.state.http))) no_members))))
 
 -- An address of a Gateway, without the port. Source: IPAddressType.
 abbrev pub address_data : Socket → Data
@@ -90,6 +92,41 @@ gateway_data s =
     (member (codes "namespace") (string (printed s.key.namespace))
     (member (codes "status") (gateway_status_data s) no_members))))
 
+-- The members, with this one where its value is given.
+abbrev pub with_given : {X : Type 0} → List ℕ → (X → Data) → Option X → Members → Members
+with_given key value None members = members
+with_given key value (Some x) members = put key (value x) members
+
+-- The Gateway that a parentRef names: group, kind, name and namespace with their defaults.
+unfoldable pub parent_key_members : ParentStatus → Members
+parent_key_members s =
+    member (codes "group") (string gateway_group)
+    (member (codes "kind") (string (codes "Gateway"))
+    (member (codes "name") (string (printed s.name))
+    (member (codes "namespace") (string (printed s.namespace)) no_members)))
+
+-- A parentRef, with port and section name where they are given.
+unfoldable pub parent_ref_members : ParentStatus → Members
+parent_ref_members s =
+    with_given (codes "sectionName") (λ name. string (printed name)) s.section
+    (with_given (codes "port") (λ port. number (unsigned port)) s.port
+    (parent_key_members s))
+
+-- The entry of a Route for one of its parentRefs.
+unfoldable pub parent_data : ParentStatus → Data
+parent_data s =
+    object (member (codes "conditions") (conditions_data (s.accepted ∷ []))
+    (member (codes "controllerName") (string (printed s.controller))
+    (member (codes "parentRef") (object (parent_ref_members s)) no_members)))
+
+-- An HTTPRoute.
+unfoldable pub route_data : RouteStatus → Data
+route_data s =
+    object (member (codes "kind") (string (codes "HTTPRoute"))
+    (member (codes "name") (string (printed s.key.name))
+    (member (codes "namespace") (string (printed s.key.namespace))
+    (member (codes "status") (object (member (codes "parents") (array (items_of (map parent_data s.parents))) no_members)) no_members))))
+
 -- A line for each class.
 abbrev pub classes_text : List ClassStatus → List ℕ
 classes_text classes = flat_map (λ s. line_of (class_data s)) classes
@@ -98,6 +135,15 @@ classes_text classes = flat_map (λ s. line_of (class_data s)) classes
 abbrev pub gateways_text : List GatewayStatus → List ℕ
 gateways_text gateways = flat_map (λ s. line_of (gateway_data s)) gateways
 
--- The whole text: a line for each class, then one for each Gateway.
+-- The line of a Route; one without entries has none.
+abbrev pub route_line : RouteStatus → List ParentStatus → List ℕ
+route_line s [] = []
+route_line s (p ∷ parents) = line_of (route_data s)
+
+-- A line for each Route that has entries.
+abbrev pub routes_text : List RouteStatus → List ℕ
+routes_text routes = flat_map (λ s. route_line s s.parents) routes
+
+-- The whole text: a line for each class, then one for each Gateway, then one for each Route.
 unfoldable pub statuses_text : Statuses → List ℕ
-statuses_text s = classes_text s.classes ++ gateways_text s.gateways
+statuses_text s = classes_text s.classes ++ gateways_text s.gateways ++ routes_text s.routes

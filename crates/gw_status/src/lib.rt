@@ -1,4 +1,4 @@
-//! The statuses of classes, Gateways and listeners, and their text.
+//! The statuses of classes, Gateways, listeners and Routes, and their text.
 #![tactic(auto)]
 
 mod state;
@@ -9,6 +9,6 @@ pub use gw_text::{CondKind, Condition, Reason};
 pub use state::{GatewayState, ListenerState};
 pub use status::{
     ClassStatus, ClassStatuses, GatewayStatus, GatewayStatuses, ListenerStatus, ListenerStatuses,
-    Statuses,
+    ParentStatus, ParentStatuses, RouteStatus, RouteStatuses, Statuses,
 };
 pub use write::write_statuses;

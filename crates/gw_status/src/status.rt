@@ -1,5 +1,5 @@
 use crate::state::{GatewayState, ListenerState};
-use gw_text::{Condition, Key, List, Name};
+use gw_text::{Condition, Key, List, Name, NamespaceName, Text};
 use std::marker::Model;
 
 /// The statuses of classes, in key order.
@@ -10,6 +10,12 @@ pub type ListenerStatuses = List<ListenerStatus>;
 
 /// The statuses of Gateways, in key order.
 pub type GatewayStatuses = List<GatewayStatus>;
+
+/// The entries of a Route, in the order of its parentRefs.
+pub type ParentStatuses = List<ParentStatus>;
+
+/// The statuses of Routes, in key order.
+pub type RouteStatuses = List<RouteStatus>;
 
 /// The status of a GatewayClass.
 #[derive(Drop)]
@@ -31,6 +37,8 @@ impl Model for ClassStatus {
 pub struct ListenerStatus {
     pub name: Name,
     pub state: ListenerState,
+    /// The number of Routes that are attached to it.
+    pub attached: u64,
 }
 
 impl Model for ListenerStatus {
@@ -38,7 +46,7 @@ impl Model for ListenerStatus {
 
     ghost Value = { Plain };
 
-    ghost view = { λ s. record { name = s.name; state = s.state } };
+    ghost view = { λ s. record { name = s.name; state = s.state; attached = s.attached } };
 }
 
 /// The status of a Gateway, with those of its listeners.
@@ -57,11 +65,48 @@ impl Model for GatewayStatus {
     ghost view = { λ s. record { key = s.key; state = s.state; listeners = s.listeners } };
 }
 
+/// The entry of a Route for one of its parentRefs.
+#[derive(Drop)]
+pub struct ParentStatus {
+    /// The name of the controller that writes it.
+    pub controller: Text,
+    pub namespace: NamespaceName,
+    pub name: Name,
+    /// The listener's name and port, where the parentRef gives them.
+    pub section: Option<Name>,
+    pub port: Option<u16>,
+    pub accepted: Condition,
+}
+
+impl Model for ParentStatus {
+    ghost use Rattle.gw_text.specs.model.Statuses.{ParentStatus as Plain};
+
+    ghost Value = { Plain };
+
+    ghost view = { λ s. record { controller = s.controller; namespace = s.namespace; name = s.name; section = s.section; port = s.port; accepted = s.accepted } };
+}
+
+/// The status of a Route.
+#[derive(Drop)]
+pub struct RouteStatus {
+    pub key: Key,
+    pub parents: ParentStatuses,
+}
+
+impl Model for RouteStatus {
+    ghost use Rattle.gw_text.specs.model.Statuses.{RouteStatus as Plain};
+
+    ghost Value = { Plain };
+
+    ghost view = { λ s. record { key = s.key; parents = s.parents } };
+}
+
 /// All statuses, each kind in key order.
 #[derive(Drop)]
 pub struct Statuses {
     pub classes: ClassStatuses,
     pub gateways: GatewayStatuses,
+    pub routes: RouteStatuses,
 }
 
 impl Model for Statuses {
@@ -69,5 +114,5 @@ impl Model for Statuses {
 
     ghost Value = { Plain };
 
-    ghost view = { λ s. record { classes = s.classes; gateways = s.gateways } };
+    ghost view = { λ s. record { classes = s.classes; gateways = s.gateways; routes = s.routes } };
 }

@@ -1,16 +1,19 @@
 -- Where the objects of a namespace stand: they follow one another, since their keys begin alike.
-use Rattle.std.proofs.Common.{◌≡◌, ◌∙◌, ℕ, zero, suc, ◌<◌, ◌≤◌, Bool, true, false, List, [], ◌∷◌, length, map, take, drop, filter, refl, sym, ap, arith, get_or, nat_eq, ◌++◌, cond}
+use Rattle.std.proofs.Common.{◌≡◌, ◌∙◌, ℕ, zero, suc, ◌<◌, ◌≤◌, Bool, true, false, List, [], ◌∷◌, length, map, take, drop, filter, refl, sym, ap, arith, get_or, nat_eq, ◌++◌, ◌&&◌, cond, None, is_some}
 use Rattle.std.specs.List.{AllByRecursion, AllWithin, starts_with}
 use Rattle.std.specs.List.Sorted.{IsStrictlySortedBy, IsPartitionedBy, IsPartitionPoint}
 use Rattle.std.specs.Cmp.Lexicographic.{slice_cmp}
+use Rattle.std.specs.Str.{bytes_eq}
 use Rattle.std.specs.Ordering.{is_lt, nat_cmp}
 use Rattle.std.specs.declared.cmp.Ordering.{Ordering}
 use Rattle.std.specs.declared.cmp.Ordering.TheVariants.{Less, Equal, Greater}
 use Rattle.std.proofs.lemmas.Bool.Decides.{nat_tests}
 use Rattle.std.proofs.lemmas.Cmp.{nat_list_cmp_total}
+use Rattle.std.proofs.lemmas.Slice.Eq.{bytes_eq-Decides}
 use mathlib.Core.Bool.{true≢false}
-use Rattle.gw_text.specs.model.Names.{Key, joined, key_order, is_in_namespace}
-use Rattle.gw_text.specs.model.Stored.{Stored, stored_key, in_namespace, IsInKeyOrder}
+use Rattle.gw_text.specs.model.Forms.{is_key, is_name, is_namespace_or_none, name_of}
+use Rattle.gw_text.specs.model.Names.{Key, joined, key_order, same_key, is_in_namespace, cluster_key}
+use Rattle.gw_text.specs.model.Stored.{Stored, stored_key, stored_at, in_namespace, IsInKeyOrder}
 use Rattle.gw_text.proofs.Keys.{key_in_by_text}
 use Rattle.gw_store.specs.Table.{AllKeys}
 
@@ -145,3 +148,22 @@ pub in_by_text : {T : Type 0} (key : T → Key) (namespace : List ℕ) (xs : Lis
 in_by_text key namespace [] keys = refl
 in_by_text key namespace (x ∷ xs) keys =
     rw (key_in_by_text (key x.object) namespace keys.0) (ap (λ t. cond (is_in_namespace namespace (key x.object)) (x ∷ t) t) (in_by_text key namespace xs keys.1))
+
+right : (a b : Bool) → (a && b) ≡ true → b ≡ true
+right true b both = both
+right false b both = absurd (true≢false (sym both))
+
+named : (text : List ℕ) → is_name text ≡ true → is_some (name_of text) ≡ true
+named text is = rw is refl
+
+-- what is no name isn't the name of a key
+other_from_no_name : (k : Key) (text : List ℕ) → is_key k ≡ true → name_of text ≡ None → same_key k (cluster_key text) ≡ false
+other_from_no_name k text form none = not_true (same_key k (cluster_key text)) (λ same.
+    let names : k.name ≡ text = (bytes_eq-Decides k.name text).0 (right (bytes_eq k.namespace []) (bytes_eq k.name text) same) in
+    let is : is_name text ≡ true = ap is_name (sym names) ∙ right (is_namespace_or_none k.namespace) (is_name k.name) form in
+    true≢false (sym (named text is) ∙ ap is_some none))
+
+-- so no object has it as its name
+pub none_of_no_name : {T : Type 0} (key : T → Key) (text : List ℕ) (xs : List (Stored T)) → AllKeys key xs → name_of text ≡ None → stored_at key (cluster_key text) xs ≡ None
+none_of_no_name key text [] keys none = refl
+none_of_no_name key text (x ∷ xs) keys none = rw (other_from_no_name (key x.object) text keys.0 none) (none_of_no_name key text xs keys.1 none)

@@ -1,10 +1,11 @@
 -- What a put and a look-up give where the place of the key is known, and how that place is found.
-use Rattle.std.proofs.Common.{◌≡◌, true, false, Result, Ok, Err, add-one, ℕ, zero, suc, ◌+◌, ◌<◌, ◌≤◌, ℤ, List, [], ◌∷◌, length, map, None, Some, refl, sym, ap, ◌∙◌, arith, get_or, set, filter, not}
-use Rattle.std.specs.List.{AllByRecursion, AllWithin, HoldsAt, insert, remove as remove_at}
+use Rattle.std.proofs.Common.{◌≡◌, true, false, Result, Ok, Err, add-one, ℕ, zero, suc, ◌+◌, ◌<◌, ◌≤◌, ℤ, List, [], ◌∷◌, length, map, None, Some, refl, sym, ap, ◌∙◌, arith, get_or, set, filter, not, nat_eq}
+use Rattle.std.specs.List.{AllByRecursion, AllWithin, HoldsAt, insert, slice_get, remove as remove_at}
 use Rattle.std.specs.Ordering.{is_lt, is_gt}
 use Rattle.std.specs.List.Sorted.{IsStrictlySortedBy, IsSortedBy, IsSearchInRange, IsBinarySearchResult}
 use Rattle.std.specs.Result.{MatchResult}
 use Rattle.std.specs.declared.cmp.Ordering.TheVariants.{Less, Equal, Greater}
+use Rattle.std.proofs.lemmas.Bool.Decides.{nat_tests}
 use Rattle.std.proofs.lemmas.List.Sorted.{searchable_from_sorted}
 use Rattle.gw_text.specs.model.Forms.{is_key}
 use Rattle.gw_text.specs.model.Names.{Key, key_order, same_key}
@@ -187,3 +188,46 @@ module _ {T : Type 0} (key : T → Key) where
   keys-remove [] (suc i) keys = tt
   keys-remove (h ∷ hs) zero keys = keys.1
   keys-remove (h ∷ hs) (suc i) keys = (keys.0, keys-remove hs i keys.1)
+
+module _ {T : Type 0} (key : T → Key) (name : Key) where
+  -- among higher keys none is the same
+  none_same : (hs : List (Stored T)) (j : ℕ) (d : Stored T) → AllAbove key name hs → j < length hs → same_key (key (get_or hs j d).object) name ≡ false
+  none_same [] j d all within = absurd (omega arith)
+  none_same (h ∷ hs) zero d all within = other_from_higher (key h.object) name all.0
+  none_same (h ∷ hs) (suc j) d all within = none_same hs j d all.1 (omega arith)
+
+  other_than_first : (j : ℕ) → nat_eq 0 (suc j) ≡ false
+  other_than_first j = grind (arith, nat_tests)
+
+  first_is_other : (i : ℕ) → nat_eq (suc i) 0 ≡ false
+  first_is_other i = grind (arith, nat_tests)
+
+  one_less : (i j : ℕ) → nat_eq i j ≡ nat_eq (suc i) (suc j)
+  one_less i j = grind (arith, nat_tests)
+
+  -- the objects of the key are those at its place
+  pub same_at : (hs : List (Stored T)) (i j : ℕ) (d : Stored T) → StandsAt key name hs i → j < length hs → same_key (key (get_or hs j d).object) name ≡ nat_eq i j
+  same_at [] i j d place within = absurd place
+  same_at (h ∷ hs) zero zero d place within = same_from_key (key h.object) name place.0
+  same_at (h ∷ hs) zero (suc j) d place within = rw (other_than_first j) (none_same hs j d place.1 (omega arith))
+  same_at (h ∷ hs) (suc i) zero d place within = rw (first_is_other i) (other_from_lower (key h.object) name place.0)
+  same_at (h ∷ hs) (suc i) (suc j) d place within = rw (← one_less i j) (same_at hs i j d place.1 (omega arith))
+
+  -- and none where it is missing
+  pub same_nowhere : (hs : List (Stored T)) (i j : ℕ) (d : Stored T) → IsMissingAt key name hs i → j < length hs → same_key (key (get_or hs j d).object) name ≡ false
+  same_nowhere hs zero j d gap within = none_same hs j d gap within
+  same_nowhere [] (suc i) j d gap within = absurd gap
+  same_nowhere (h ∷ hs) (suc i) zero d gap within = other_from_lower (key h.object) name gap.0
+  same_nowhere (h ∷ hs) (suc i) (suc j) d gap within = same_nowhere hs i j d gap.1 (omega arith)
+
+  -- a look-up finds what stands at the place
+  pub found_at : (hs : List (Stored T)) (i : ℕ) → StandsAt key name hs i → stored_at key name hs ≡ slice_get hs i
+  found_at [] i place = absurd place
+  found_at (h ∷ hs) zero place = rw (same_from_key (key h.object) name place.0) refl
+  found_at (h ∷ hs) (suc i) place = rw (other_from_lower (key h.object) name place.0) (found_at hs i place.1)
+
+  -- the place is one of the list
+  pub stands_within : (hs : List (Stored T)) (i : ℕ) → StandsAt key name hs i → i < length hs
+  stands_within [] i place = absurd place
+  stands_within (h ∷ hs) zero place = omega arith
+  stands_within (h ∷ hs) (suc i) place = let rest = stands_within hs i place.1 in omega arith

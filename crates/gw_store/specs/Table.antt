@@ -1,9 +1,9 @@
 -- A table of objects as contracts see it, and where a key stands in it.
-use Rattle.std.specs.Prelude.{◌≡◌, ℕ, suc, zero, true, List, [], ◌∷◌}
-use Rattle.std.specs.List.{AllByRecursion}
+use Rattle.std.specs.Prelude.{◌≡◌, ◌<◌, ℕ, suc, zero, Bool, true, false, nat_eq, List, [], ◌∷◌, length, get_or, Option, Some, None}
+use Rattle.std.specs.List.{AllByRecursion, slice_get}
 use Rattle.std.specs.declared.cmp.Ordering.TheVariants.{Less, Greater}
 use Rattle.gw_text.specs.model.Forms.{is_key}
-use Rattle.gw_text.specs.model.Names.{Key, key_order}
+use Rattle.gw_text.specs.model.Names.{Key, key_order, same_key}
 use Rattle.gw_text.specs.model.Stored.{Stored, IsInKeyOrder}
 
 -- The stored objects in key order, and for how many more there is room.
@@ -35,3 +35,18 @@ abbrev pub IsMissingAt : {T : Type 0} → (T → Key) → Key → List (Stored T
 IsMissingAt key name stored zero = AllAbove key name stored
 IsMissingAt key name [] (suc i) = ⊥
 IsMissingAt key name (s ∷ stored) (suc i) = (key_order (key s.object) name ≡ Less) × IsMissingAt key name stored i
+
+-- The place, if there is one, is this one.
+abbrev pub is_place : Option ℕ → ℕ → Bool
+is_place None i = false
+is_place (Some place) i = nat_eq place i
+
+-- What stands at the place, if there is one.
+abbrev pub at_place : {X : Type 0} → List X → Option ℕ → Option X
+at_place xs None = None
+at_place xs (Some place) = slice_get xs place
+
+-- The object at this place, if there is a place, has this key, and no object elsewhere has it.
+abbrev pub IsPlaceOf : {T : Type 0} → (T → Key) → Key → List (Stored T) → Option ℕ → Type 0
+IsPlaceOf key name stored place =
+    (i : ℕ) (d : Stored _) → i < length stored → same_key (key (get_or stored i d).object) name ≡ is_place place i

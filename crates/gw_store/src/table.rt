@@ -1,13 +1,13 @@
-ghost use Rattle.std.specs.Prelude.{◌≡◌, ◌<◌, ◌++◌, [], length, codes, nat_eq, OnOk, MatchResult, is_some, option_copied};
+ghost use Rattle.std.specs.Prelude.{◌≡◌, ◌<◌, ◌++◌, [], length, codes, nat_eq, IfOk, IfSome, OnOk, MatchResult, is_some, option_copied};
 ghost use Rattle.std.specs.Cmp.Lexicographic.{slice_cmp};
 ghost use Rattle.std.specs.List.{starts_with};
 ghost use Rattle.std.specs.List.Sorted.{IsSearchInRange};
 ghost use Rattle.std.specs.Ordering.{is_lt, nat_cmp};
-ghost use Rattle.gw_text.specs.model.Names.{joined, key_order};
+ghost use Rattle.gw_text.specs.model.Names.{cluster_key, joined, key_order};
 ghost use Rattle.gw_text.specs.model.Stored.{put, remove, stored_at, stored_key, in_namespace, IsInKeyOrder};
-ghost use Rattle.gw_store.specs.Table.{AllKeys, StandsAt, IsMissingAt};
+ghost use Rattle.gw_store.specs.Table.{AllKeys, StandsAt, IsMissingAt, IsPlaceOf, at_place};
 
-use gw_text::{Incoming, Key, NoMemory, Second, Stored, Text};
+use gw_text::{Incoming, Key, Name, NoMemory, Second, Stored, Text};
 use std::alloc::Global;
 use std::cmp::Ordering;
 use std::marker::Model;
@@ -65,6 +65,7 @@ impl<T: Keyed + Drop> Table<T> {
     pub fn objects(&self) -> &[Stored<T>]
         ensures value { result.now ≡ self.now.stored }
         ensures order { IsInKeyOrder T.key result.now }
+        ensures keys { AllKeys T.key result.now }
     {
         self.stored.as_slice()
     }
@@ -115,6 +116,32 @@ impl<T: Keyed + Drop> Table<T> {
     {
         match place(self.stored.as_slice(), key) {
             Ok(at) => Some(&self.stored[at]),
+            Err(_) => None,
+        }
+    }
+
+    /// The object that is held under this name alone, of a kind without namespaces.
+    #[tactic(auto, using(crate::proofs::Namespaces::none_of_no_name))]
+    pub fn named(&self, alloc: Global, name: &Text) -> Result<Option<&Stored<T>>, NoMemory>
+        ensures { IfOk result (λ found. option_copied found ≡ stored_at T.key (cluster_key name.now) self.now.stored) }
+    {
+        if self.objects().is_empty() {
+            return Ok(None);
+        }
+        match Name::of_text(name.copy(alloc)?) {
+            Some(name) => Ok(self.get(&Key::of_cluster(alloc, name))),
+            None => Ok(None),
+        }
+    }
+
+    /// The place of the object that is held under `key` among all.
+    pub fn position(&self, key: &Key) -> Option<usize>
+        ensures place { IsPlaceOf T.key key.now self.now.stored result }
+        ensures found { stored_at T.key key.now self.now.stored ≡ at_place self.now.stored result }
+        ensures within { IfSome result (λ place. place < length self.now.stored) }
+    {
+        match place(self.stored.as_slice(), key) {
+            Ok(at) => Some(at),
             Err(_) => None,
         }
     }

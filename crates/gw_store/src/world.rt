@@ -1,7 +1,9 @@
-ghost use Rattle.std.specs.Prelude.{◌≡◌, ◌↔◌, ◌<◌, false, nat_le, IsOk, IfErr, OnOk, option_copied};
+ghost use Rattle.std.specs.Prelude.{◌≡◌, ◌↔◌, ◌<◌, false, nat_le, IsOk, IfOk, IfSome, IfErr, OnOk, length, option_copied};
+ghost use Rattle.gw_text.specs.model.Names.{cluster_key};
 ghost use Rattle.gw_text.specs.model.Stored.{stored_at, IsInKeyOrder};
 ghost use Rattle.gw_text.specs.model.World as worlds;
 ghost use Rattle.gw_store.specs.SeenEvents.{seen_object, seen_event};
+ghost use Rattle.gw_store.specs.Table.{IsPlaceOf, at_place};
 
 use crate::event::{Event, Object};
 use crate::table::Table;
@@ -229,6 +231,26 @@ impl World {
         ensures { option_copied result ≡ stored_at worlds.namespace_key key.now self.now.world.namespaces }
     {
         self.namespaces.get(key)
+    }
+
+    /// The Namespace of this name.
+    pub fn namespace_named(
+        &self,
+        alloc: Global,
+        name: &Text,
+    ) -> Result<Option<&Stored<Namespace>>, NoMemory>
+        ensures { IfOk result (λ found. option_copied found ≡ stored_at worlds.namespace_key (cluster_key name.now) self.now.world.namespaces) }
+    {
+        self.namespaces.named(alloc, name)
+    }
+
+    /// The place of the Gateway of this key among all.
+    pub fn gateway_position(&self, key: &Key) -> Option<usize>
+        ensures place { IsPlaceOf worlds.gateway_key key.now self.now.world.gateways result }
+        ensures found { worlds.gateway_at self.now.world key.now ≡ at_place self.now.world.gateways result }
+        ensures within { IfSome result (λ place. place < length self.now.world.gateways) }
+    {
+        self.gateways.position(key)
     }
 
     /// All GatewayClasses, in key order.

@@ -1,6 +1,6 @@
 -- Keys of their form: no slash stands in a namespace or a name, so the text of a key gives both back.
-use Rattle.std.proofs.Common.{◌≡◌, ◌∙◌, ℕ, Bool, true, false, not, ◌&&◌, ◌||◌, ◌==◌, List, [], ◌∷◌, ◌++◌, refl, sym, ap, arith, nat_eq, IsTrue, ◌↔◌}
-use Rattle.std.specs.Cmp.Lexicographic.{slice_cmp, pointwise}
+use Rattle.std.proofs.Common.{◌≡◌, ◌∙◌, ℕ, Bool, true, false, not, ◌&&◌, ◌||◌, ◌==◌, List, [], ◌∷◌, ◌++◌, refl, sym, ap, arith, nat_eq, ◌↔◌}
+use Rattle.std.specs.Cmp.Lexicographic.{slice_cmp}
 use Rattle.std.specs.List.{list_all, starts_with}
 use Rattle.std.specs.Ordering.{nat_cmp, is_lt, is_eq, is_gt, ordering_then, ordering_reverse}
 use Rattle.std.specs.Str.{bytes_eq}
@@ -14,7 +14,7 @@ use Rattle.std.proofs.lemmas.Bool.Decides.{nat_tests}
 use Rattle.std.proofs.lemmas.Map.Text.{is_eq-slice_cmp}
 use Rattle.std.proofs.Math.Seq.{append_snoc}
 use mathlib.Core.Bool.{true≢false}
-use Rattle.gw_text.specs.model.Forms.{is_alphanumeric, is_label_byte, is_dot, is_key, is_name, is_namespace_or_none}
+use Rattle.gw_text.specs.model.Forms.{is_label_byte, is_dot, is_key, is_name, is_namespace_or_none}
 use Rattle.gw_text.specs.model.Names.{Key, joined, separator, key_order, same_key, is_given, is_in_namespace}
 
 -- a byte that isn't a slash

@@ -1,5 +1,6 @@
 -- What contracts speak of: objects, counts and lists as plain records, a file for each subject.
 pub mod Addresses
+pub mod Attachment
 pub mod Chains
 pub mod Conditions
 pub mod Doors
@@ -28,4 +29,5 @@ pub mod Slices
 pub mod Statuses
 pub mod Stored
 pub mod Types
+pub mod Unsupported
 pub mod World

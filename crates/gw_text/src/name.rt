@@ -59,6 +59,17 @@ impl Name {
         Ok(Name { text })
     }
 
+    /// The name that a text is, if it is the name of an object.
+    pub fn of_text(text: Text) -> Option<Self>
+        ensures { result ≡ forms.name_of text }
+    {
+        if is_name(text.bytes()) {
+            Some(Name { text })
+        } else {
+            None
+        }
+    }
+
     /// The name as a text.
     pub fn text(&self) -> &Text
         ensures value { result.now ≡ self.now }

@@ -1,11 +1,9 @@
-//! Tests of events, the world, conditions and statuses, over public calls. They stand alone, since a crate with tests is
+//! Tests of events, the world and the text of statuses, over public calls. They stand alone, since a crate with tests is
 //! proved twice.
 #![tactic(auto)]
 
 #[cfg(test)]
 mod events;
-#[cfg(test)]
-mod listeners;
 #[cfg(test)]
 mod statuses;
 #[cfg(test)]

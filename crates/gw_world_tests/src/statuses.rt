@@ -1,9 +1,9 @@
 //! The text of statuses, and the texts of types and reasons.
 use gw_status::{
     ClassStatus, CondKind, Condition, GatewayState, GatewayStatus, ListenerState, ListenerStatus,
-    Reason, Statuses, write_statuses,
+    ParentStatus, Reason, RouteStatus, Statuses, write_statuses,
 };
-use gw_text::{Key, List, Name, Socket, TextFault};
+use gw_text::{Key, List, Name, NamespaceName, Socket, Text, TextFault};
 use std::alloc::Global;
 use std::test::Fail;
 
@@ -15,11 +15,12 @@ fn class_alone(alloc: Global, name: &str, accepted: Condition) -> Result<Statuse
     Ok(Statuses {
         classes,
         gateways: List::new(alloc),
+        routes: List::new(alloc),
     })
 }
 
 // A listener that is accepted and serves.
-fn served(alloc: Global, name: &str) -> Result<ListenerStatus, TextFault> {
+fn served(alloc: Global, name: &str, attached: u64) -> Result<ListenerStatus, TextFault> {
     let name = Name::parse(alloc, name)?;
     let state = ListenerState {
         accepted: Condition::true_by(CondKind::Accepted, Reason::Accepted),
@@ -28,11 +29,15 @@ fn served(alloc: Global, name: &str) -> Result<ListenerStatus, TextFault> {
         resolved: Condition::true_by(CondKind::ResolvedRefs, Reason::ResolvedRefs),
         http: true,
     };
-    Ok(ListenerStatus { name, state })
+    Ok(ListenerStatus {
+        name,
+        state,
+        attached,
+    })
 }
 
 // A listener of a protocol that isn't served.
-fn unserved(alloc: Global, name: &str) -> Result<ListenerStatus, TextFault> {
+fn unserved(alloc: Global, name: &str, attached: u64) -> Result<ListenerStatus, TextFault> {
     let name = Name::parse(alloc, name)?;
     let state = ListenerState {
         accepted: Condition::false_by(CondKind::Accepted, Reason::UnsupportedProtocol),
@@ -41,12 +46,16 @@ fn unserved(alloc: Global, name: &str) -> Result<ListenerStatus, TextFault> {
         resolved: Condition::false_by(CondKind::ResolvedRefs, Reason::InvalidRouteKinds),
         http: false,
     };
-    Ok(ListenerStatus { name, state })
+    Ok(ListenerStatus {
+        name,
+        state,
+        attached,
+    })
 }
 
 const SERVED: &[u8] =
     br#"{"kind":"GatewayClass","name":"c","status":{"conditions":[{"reason":"Accepted","status":"True","type":"Accepted"}]}}
-{"kind":"Gateway","name":"g","namespace":"default","status":{"addresses":[{"type":"IPAddress","value":"127.0.0.1"}],"conditions":[{"reason":"Accepted","status":"True","type":"Accepted"},{"reason":"Programmed","status":"True","type":"Programmed"}],"listeners":[{"conditions":[{"reason":"Accepted","status":"True","type":"Accepted"},{"reason":"NoConflicts","status":"False","type":"Conflicted"},{"reason":"Programmed","status":"True","type":"Programmed"},{"reason":"ResolvedRefs","status":"True","type":"ResolvedRefs"}],"name":"http","supportedKinds":[{"group":"gateway.networking.k8s.io","kind":"HTTPRoute"}]}]}}
+{"kind":"Gateway","name":"g","namespace":"default","status":{"addresses":[{"type":"IPAddress","value":"127.0.0.1"}],"conditions":[{"reason":"Accepted","status":"True","type":"Accepted"},{"reason":"Programmed","status":"True","type":"Programmed"}],"listeners":[{"attachedRoutes":3,"conditions":[{"reason":"Accepted","status":"True","type":"Accepted"},{"reason":"NoConflicts","status":"False","type":"Conflicted"},{"reason":"Programmed","status":"True","type":"Programmed"},{"reason":"ResolvedRefs","status":"True","type":"ResolvedRefs"}],"name":"http","supportedKinds":[{"group":"gateway.networking.k8s.io","kind":"HTTPRoute"}]}]}}
 "#;
 
 #[test]
@@ -55,7 +64,7 @@ fn a_gateway_that_serves(rt: HostRuntime) -> Result<(), Fail> {
     let accepted = Condition::true_by(CondKind::Accepted, Reason::Accepted);
     let mut statuses = class_alone(alloc, "c", accepted)?;
     let mut listeners = List::new(alloc);
-    listeners.push(served(alloc, "http")?)?;
+    listeners.push(served(alloc, "http", 3)?)?;
     let state = GatewayState {
         accepted,
         programmed: Condition::true_by(CondKind::Programmed, Reason::Programmed),
@@ -79,7 +88,7 @@ fn a_gateway_that_serves(rt: HostRuntime) -> Result<(), Fail> {
 
 const UNSERVED: &[u8] =
     br#"{"kind":"GatewayClass","name":"c","status":{"conditions":[{"reason":"InvalidParameters","status":"False","type":"Accepted"}]}}
-{"kind":"Gateway","name":"g","namespace":"n","status":{"addresses":[],"conditions":[{"reason":"ListenersNotValid","status":"True","type":"Accepted"},{"reason":"AddressNotAssigned","status":"False","type":"Programmed"}],"listeners":[{"conditions":[{"reason":"Accepted","status":"True","type":"Accepted"},{"reason":"NoConflicts","status":"False","type":"Conflicted"},{"reason":"Programmed","status":"True","type":"Programmed"},{"reason":"ResolvedRefs","status":"True","type":"ResolvedRefs"}],"name":"a","supportedKinds":[{"group":"gateway.networking.k8s.io","kind":"HTTPRoute"}]},{"conditions":[{"reason":"UnsupportedProtocol","status":"False","type":"Accepted"},{"reason":"NoConflicts","status":"False","type":"Conflicted"},{"reason":"Invalid","status":"False","type":"Programmed"},{"reason":"InvalidRouteKinds","status":"False","type":"ResolvedRefs"}],"name":"b","supportedKinds":[]}]}}
+{"kind":"Gateway","name":"g","namespace":"n","status":{"addresses":[],"conditions":[{"reason":"ListenersNotValid","status":"True","type":"Accepted"},{"reason":"AddressNotAssigned","status":"False","type":"Programmed"}],"listeners":[{"attachedRoutes":0,"conditions":[{"reason":"Accepted","status":"True","type":"Accepted"},{"reason":"NoConflicts","status":"False","type":"Conflicted"},{"reason":"Programmed","status":"True","type":"Programmed"},{"reason":"ResolvedRefs","status":"True","type":"ResolvedRefs"}],"name":"a","supportedKinds":[{"group":"gateway.networking.k8s.io","kind":"HTTPRoute"}]},{"attachedRoutes":16384,"conditions":[{"reason":"UnsupportedProtocol","status":"False","type":"Accepted"},{"reason":"NoConflicts","status":"False","type":"Conflicted"},{"reason":"Invalid","status":"False","type":"Programmed"},{"reason":"InvalidRouteKinds","status":"False","type":"ResolvedRefs"}],"name":"b","supportedKinds":[]}]}}
 "#;
 
 #[test]
@@ -88,8 +97,8 @@ fn a_gateway_that_is_not_programmed(rt: HostRuntime) -> Result<(), Fail> {
     let refused = Condition::false_by(CondKind::Accepted, Reason::InvalidParameters);
     let mut statuses = class_alone(alloc, "c", refused)?;
     let mut listeners = List::new(alloc);
-    listeners.push(served(alloc, "a")?)?;
-    listeners.push(unserved(alloc, "b")?)?;
+    listeners.push(served(alloc, "a", 0)?)?;
+    listeners.push(unserved(alloc, "b", 16_384)?)?;
     let state = GatewayState {
         accepted: Condition::true_by(CondKind::Accepted, Reason::ListenersNotValid),
         programmed: Condition::false_by(CondKind::Programmed, Reason::AddressNotAssigned),
@@ -105,11 +114,57 @@ fn a_gateway_that_is_not_programmed(rt: HostRuntime) -> Result<(), Fail> {
     Ok(())
 }
 
+// A Route with two entries, and one without any, which has no line.
+const ROUTES: &[u8] =
+    br#"{"kind":"GatewayClass","name":"c","status":{"conditions":[{"reason":"Accepted","status":"True","type":"Accepted"}]}}
+{"kind":"HTTPRoute","name":"r","namespace":"n","status":{"parents":[{"conditions":[{"reason":"Accepted","status":"True","type":"Accepted"}],"controllerName":"example.com/gateward","parentRef":{"group":"gateway.networking.k8s.io","kind":"Gateway","name":"g","namespace":"m"}},{"conditions":[{"reason":"NotAllowedByListeners","status":"False","type":"Accepted"}],"controllerName":"example.com/gateward","parentRef":{"group":"gateway.networking.k8s.io","kind":"Gateway","name":"g","namespace":"n","port":8080,"sectionName":"http"}}]}}
+"#;
+
+fn entry(
+    alloc: Global,
+    namespace: &str,
+    section: Option<Name>,
+    port: Option<u16>,
+    accepted: Condition,
+) -> Result<ParentStatus, TextFault> {
+    Ok(ParentStatus {
+        controller: Text::of(alloc, "example.com/gateward")?,
+        namespace: NamespaceName::parse(alloc, namespace)?,
+        name: Name::parse(alloc, "g")?,
+        section,
+        port,
+        accepted,
+    })
+}
+
+#[test]
+fn a_route_with_two_entries(rt: HostRuntime) -> Result<(), Fail> {
+    let alloc = rt.alloc();
+    let accepted = Condition::true_by(CondKind::Accepted, Reason::Accepted);
+    let refused = Condition::false_by(CondKind::Accepted, Reason::NotAllowedByListeners);
+    let mut statuses = class_alone(alloc, "c", accepted)?;
+    let mut parents = List::new(alloc);
+    parents.push(entry(alloc, "m", None, None, accepted)?)?;
+    let section = Name::parse(alloc, "http")?;
+    parents.push(entry(alloc, "n", Some(section), Some(8080), refused)?)?;
+    statuses.routes.push(RouteStatus {
+        key: Key::parse(alloc, "n/r")?,
+        parents,
+    })?;
+    statuses.routes.push(RouteStatus {
+        key: Key::parse(alloc, "n/s")?,
+        parents: List::new(alloc),
+    })?;
+    assert!(rt; write_statuses(alloc, &statuses)?.bytes() == ROUTES);
+    Ok(())
+}
+
 #[test]
 fn nothing_is_written_of_no_statuses(rt: HostRuntime) -> Result<(), Fail> {
     let none = Statuses {
         classes: List::new(rt.alloc()),
         gateways: List::new(rt.alloc()),
+        routes: List::new(rt.alloc()),
     };
     let text = write_statuses(rt.alloc(), &none)?;
     assert!(rt; text.bytes().is_empty());

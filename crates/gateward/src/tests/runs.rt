@@ -20,6 +20,10 @@ const FULL_ROUTE: &str =
 const CLASS_STATUS: &str =
     r#"{"kind":"GatewayClass","name":"c","status":{"conditions":[{"reason":"Accepted","status":"True","type":"Accepted"}]}}"#;
 
+// The entry of the Route `default/r` at the Gateway `default/g`.
+const ROUTE_STATUS: &str =
+    r#"{"kind":"HTTPRoute","name":"r","namespace":"default","status":{"parents":[{"conditions":[{"reason":"Accepted","status":"True","type":"Accepted"}],"controllerName":"gateward.example/controller","parentRef":{"group":"gateway.networking.k8s.io","kind":"Gateway","name":"g","namespace":"default"}}]}}"#;
+
 fn expect_run(
     rt: &(impl Abort + AllocGlobal),
     words: &str,
@@ -38,14 +42,14 @@ fn expect_run(
 #[test]
 fn a_gateway_with_a_door(rt: HostRuntime) -> Result<(), Fail> {
     let status =
-        r#"{"kind":"Gateway","name":"g","namespace":"default","status":{"addresses":[{"type":"IPAddress","value":"127.0.0.1"}],"conditions":[{"reason":"Accepted","status":"True","type":"Accepted"},{"reason":"Programmed","status":"True","type":"Programmed"}],"listeners":[{"conditions":[{"reason":"Accepted","status":"True","type":"Accepted"},{"reason":"NoConflicts","status":"False","type":"Conflicted"},{"reason":"Programmed","status":"True","type":"Programmed"},{"reason":"ResolvedRefs","status":"True","type":"ResolvedRefs"}],"name":"http","supportedKinds":[{"group":"gateway.networking.k8s.io","kind":"HTTPRoute"}]}]}}"#;
+        r#"{"kind":"Gateway","name":"g","namespace":"default","status":{"addresses":[{"type":"IPAddress","value":"127.0.0.1"}],"conditions":[{"reason":"Accepted","status":"True","type":"Accepted"},{"reason":"Programmed","status":"True","type":"Programmed"}],"listeners":[{"attachedRoutes":1,"conditions":[{"reason":"Accepted","status":"True","type":"Accepted"},{"reason":"NoConflicts","status":"False","type":"Conflicted"},{"reason":"Programmed","status":"True","type":"Programmed"},{"reason":"ResolvedRefs","status":"True","type":"ResolvedRefs"}],"name":"http","supportedKinds":[{"group":"gateway.networking.k8s.io","kind":"HTTPRoute"}]}]}}"#;
     let lines = [CLASS, GATEWAY, ROUTE, SERVICE, SLICE];
     let summary = r#"{"changes":5,"refused":0,"skipped":0}"#;
     expect_run(
         &rt,
         "status default/g:80=127.0.0.1:18080",
         &lines,
-        &[CLASS_STATUS, status, summary],
+        &[CLASS_STATUS, status, ROUTE_STATUS, summary],
         0,
     )?;
     Ok(())
@@ -54,13 +58,13 @@ fn a_gateway_with_a_door(rt: HostRuntime) -> Result<(), Fail> {
 #[test]
 fn a_gateway_without_a_door(rt: HostRuntime) -> Result<(), Fail> {
     let status =
-        r#"{"kind":"Gateway","name":"g","namespace":"default","status":{"addresses":[],"conditions":[{"reason":"ListenersNotValid","status":"False","type":"Accepted"},{"reason":"AddressNotAssigned","status":"False","type":"Programmed"}],"listeners":[{"conditions":[{"reason":"PortUnavailable","status":"False","type":"Accepted"},{"reason":"NoConflicts","status":"False","type":"Conflicted"},{"reason":"Invalid","status":"False","type":"Programmed"},{"reason":"ResolvedRefs","status":"True","type":"ResolvedRefs"}],"name":"http","supportedKinds":[{"group":"gateway.networking.k8s.io","kind":"HTTPRoute"}]}]}}"#;
+        r#"{"kind":"Gateway","name":"g","namespace":"default","status":{"addresses":[],"conditions":[{"reason":"ListenersNotValid","status":"False","type":"Accepted"},{"reason":"AddressNotAssigned","status":"False","type":"Programmed"}],"listeners":[{"attachedRoutes":1,"conditions":[{"reason":"PortUnavailable","status":"False","type":"Accepted"},{"reason":"NoConflicts","status":"False","type":"Conflicted"},{"reason":"Invalid","status":"False","type":"Programmed"},{"reason":"ResolvedRefs","status":"True","type":"ResolvedRefs"}],"name":"http","supportedKinds":[{"group":"gateway.networking.k8s.io","kind":"HTTPRoute"}]}]}}"#;
     let summary = r#"{"changes":3,"refused":0,"skipped":0}"#;
     expect_run(
         &rt,
         "status",
         &[CLASS, GATEWAY, ROUTE],
-        &[CLASS_STATUS, status, summary],
+        &[CLASS_STATUS, status, ROUTE_STATUS, summary],
         0,
     )?;
     Ok(())
@@ -133,13 +137,13 @@ fn listeners_in_conflict(rt: HostRuntime) -> Result<(), Fail> {
     let gateway =
         r#"{"type":"ADDED","object":{"apiVersion":"gateway.networking.k8s.io/v1","kind":"Gateway","metadata":{"name":"g"},"spec":{"gatewayClassName":"c","listeners":[{"name":"a","port":80,"protocol":"HTTP"},{"name":"b","port":80,"protocol":"HTTP"},{"name":"d","hostname":"x.example.com","port":80,"protocol":"HTTP"}]}}}"#;
     let status =
-        r#"{"kind":"Gateway","name":"g","namespace":"default","status":{"addresses":[{"type":"IPAddress","value":"127.0.0.1"}],"conditions":[{"reason":"ListenersNotValid","status":"True","type":"Accepted"},{"reason":"Programmed","status":"True","type":"Programmed"}],"listeners":[{"conditions":[{"reason":"HostnameConflict","status":"False","type":"Accepted"},{"reason":"HostnameConflict","status":"True","type":"Conflicted"},{"reason":"Invalid","status":"False","type":"Programmed"},{"reason":"ResolvedRefs","status":"True","type":"ResolvedRefs"}],"name":"a","supportedKinds":[{"group":"gateway.networking.k8s.io","kind":"HTTPRoute"}]},{"conditions":[{"reason":"HostnameConflict","status":"False","type":"Accepted"},{"reason":"HostnameConflict","status":"True","type":"Conflicted"},{"reason":"Invalid","status":"False","type":"Programmed"},{"reason":"ResolvedRefs","status":"True","type":"ResolvedRefs"}],"name":"b","supportedKinds":[{"group":"gateway.networking.k8s.io","kind":"HTTPRoute"}]},{"conditions":[{"reason":"Accepted","status":"True","type":"Accepted"},{"reason":"NoConflicts","status":"False","type":"Conflicted"},{"reason":"Programmed","status":"True","type":"Programmed"},{"reason":"ResolvedRefs","status":"True","type":"ResolvedRefs"}],"name":"d","supportedKinds":[{"group":"gateway.networking.k8s.io","kind":"HTTPRoute"}]}]}}"#;
-    let summary = r#"{"changes":2,"refused":0,"skipped":0}"#;
+        r#"{"kind":"Gateway","name":"g","namespace":"default","status":{"addresses":[{"type":"IPAddress","value":"127.0.0.1"}],"conditions":[{"reason":"ListenersNotValid","status":"True","type":"Accepted"},{"reason":"Programmed","status":"True","type":"Programmed"}],"listeners":[{"attachedRoutes":1,"conditions":[{"reason":"HostnameConflict","status":"False","type":"Accepted"},{"reason":"HostnameConflict","status":"True","type":"Conflicted"},{"reason":"Invalid","status":"False","type":"Programmed"},{"reason":"ResolvedRefs","status":"True","type":"ResolvedRefs"}],"name":"a","supportedKinds":[{"group":"gateway.networking.k8s.io","kind":"HTTPRoute"}]},{"attachedRoutes":1,"conditions":[{"reason":"HostnameConflict","status":"False","type":"Accepted"},{"reason":"HostnameConflict","status":"True","type":"Conflicted"},{"reason":"Invalid","status":"False","type":"Programmed"},{"reason":"ResolvedRefs","status":"True","type":"ResolvedRefs"}],"name":"b","supportedKinds":[{"group":"gateway.networking.k8s.io","kind":"HTTPRoute"}]},{"attachedRoutes":1,"conditions":[{"reason":"Accepted","status":"True","type":"Accepted"},{"reason":"NoConflicts","status":"False","type":"Conflicted"},{"reason":"Programmed","status":"True","type":"Programmed"},{"reason":"ResolvedRefs","status":"True","type":"ResolvedRefs"}],"name":"d","supportedKinds":[{"group":"gateway.networking.k8s.io","kind":"HTTPRoute"}]}]}}"#;
+    let summary = r#"{"changes":5,"refused":0,"skipped":0}"#;
     expect_run(
         &rt,
         "status default/g:80=127.0.0.1:18080",
-        &[CLASS, gateway],
-        &[CLASS_STATUS, status, summary],
+        &[CLASS, gateway, ROUTE, SERVICE, SLICE],
+        &[CLASS_STATUS, status, ROUTE_STATUS, summary],
         0,
     )?;
     Ok(())
@@ -150,7 +154,7 @@ fn kinds_that_are_not_supported(rt: HostRuntime) -> Result<(), Fail> {
     let gateway =
         r#"{"type":"ADDED","object":{"apiVersion":"gateway.networking.k8s.io/v1","kind":"Gateway","metadata":{"name":"g"},"spec":{"gatewayClassName":"c","listeners":[{"name":"http","port":80,"protocol":"HTTP","allowedRoutes":{"kinds":[{"kind":"HTTPRoute"},{"kind":"GRPCRoute"}]}}]}}}"#;
     let status =
-        r#"{"kind":"Gateway","name":"g","namespace":"default","status":{"addresses":[{"type":"IPAddress","value":"127.0.0.1"}],"conditions":[{"reason":"Accepted","status":"True","type":"Accepted"},{"reason":"Programmed","status":"True","type":"Programmed"}],"listeners":[{"conditions":[{"reason":"Accepted","status":"True","type":"Accepted"},{"reason":"NoConflicts","status":"False","type":"Conflicted"},{"reason":"Programmed","status":"True","type":"Programmed"},{"reason":"InvalidRouteKinds","status":"False","type":"ResolvedRefs"}],"name":"http","supportedKinds":[{"group":"gateway.networking.k8s.io","kind":"HTTPRoute"}]}]}}"#;
+        r#"{"kind":"Gateway","name":"g","namespace":"default","status":{"addresses":[{"type":"IPAddress","value":"127.0.0.1"}],"conditions":[{"reason":"Accepted","status":"True","type":"Accepted"},{"reason":"Programmed","status":"True","type":"Programmed"}],"listeners":[{"attachedRoutes":0,"conditions":[{"reason":"Accepted","status":"True","type":"Accepted"},{"reason":"NoConflicts","status":"False","type":"Conflicted"},{"reason":"Programmed","status":"True","type":"Programmed"},{"reason":"InvalidRouteKinds","status":"False","type":"ResolvedRefs"}],"name":"http","supportedKinds":[{"group":"gateway.networking.k8s.io","kind":"HTTPRoute"}]}]}}"#;
     let summary = r#"{"changes":2,"refused":0,"skipped":0}"#;
     expect_run(
         &rt,

@@ -1,6 +1,4 @@
-use Rattle.std.proofs.Common.{◌≡◌, rules, ap, sym, ◌∙◌}
 use Rattle.std.proofs.lemmas.Slice.Eq.{bytes_eq-Decides}
-use Rattle.gw_text.specs.model.Names.{Key}
 use Rattle.gw_text.proofs.key.Key.is_beside.Goals as goal
 
 pub returns-clause-value : goal.returns-clause-value

@@ -1,0 +1,2 @@
+pub mod Selectors
+pub mod Hostnames
