@@ -1,4 +1,4 @@
-ghost use Rattle.std.specs.Prelude.{◌≡◌, ◌≤◌, ◌++◌, length, IfOk, string_bytes};
+ghost use Rattle.std.specs.Prelude.{◌≡◌, ◌<◌, ◌≤◌, ◌++◌, length, IfOk, string_bytes};
 ghost use Rattle.gw_status.specs.StatusText.{statuses_text};
 ghost use Rattle.gw_text.specs.model.Statuses.{statuses_of};
 ghost use Rattle.gw_link.specs.declared.source.TheConstants.{MOST_INPUT};
@@ -9,12 +9,15 @@ ghost use Rattle.gateward.specs.Outputs.{IsOutput};
 use crate::print::summary_value;
 use crate::report::{Report, apply_lines};
 use crate::start::Setting;
-use gw_eval::evaluate;
+use gw_eval::eval_all;
 use gw_json::push_line;
 use gw_link::{Clock, MOST_INPUT};
-use gw_status::write_statuses;
-use gw_text::{NoMemory, Text};
+use gw_status::{Statuses, push_statuses};
+use gw_store::World;
+use gw_text::{NoMemory, Steps, Text};
 use std::alloc::Global;
+use std::marker::Brand;
+use std::sync::ledger::{Blank, Ledger};
 
 /// What `status` gives for an input.
 #[derive(Drop)]
@@ -25,7 +28,7 @@ pub struct Output {
     pub refused: bool,
 }
 
-/// The text of the statuses of the objects that are held after the lines of `input`.
+/// What `status` gives for `input`: its refused lines, the statuses of the objects that are held after it, and its summary.
 pub fn status<C: Clock>(
     alloc: Global,
     setting: &Setting,
@@ -41,19 +44,40 @@ pub fn status<C: Clock>(
     Ok(Output { text, refused })
 }
 
+// The statuses of a world. Nobody asks for the steps that they take.
+fn statuses<L: Ledger>(
+    alloc: Global,
+    setting: &Setting,
+    world: &World,
+    blank: Blank,
+) -> Result<Statuses, NoMemory>
+    requires name { blank.name ≡ L.name }
+    requires parts { blank.parts ≡ L.parts }
+    requires positive { 0 < L.parts }
+    ensures { IfOk result (λ all. all ≡ statuses_of setting.now.doors setting.now.controller world.now.world) }
+{
+    let mut steps: Steps<L> = Steps::open(blank);
+    eval_all(
+        alloc,
+        world,
+        &setting.doors,
+        &setting.controller,
+        &mut steps,
+    )
+}
+
 // The refused lines, the statuses, the summary.
 fn report_text(alloc: Global, setting: &Setting, report: Report) -> Result<Text, NoMemory>
     ensures { IfOk result (λ text. text ≡ string_bytes report.text
         ++ statuses_text (statuses_of setting.now.doors setting.now.controller report.world.world)
         ++ line_of (summary_data report.world.world.changes report.refused report.skipped)) }
 {
-    let statuses = evaluate(alloc, &report.world, &setting.doors, &setting.controller)?;
-    let statuses = write_statuses(alloc, &statuses)?;
+    let statuses = statuses::<Brand>(alloc, setting, &report.world, Blank::new(1))?;
     let summary = summary_line(alloc, &report)?;
-    let mut text = report.text.into_bytes();
-    text.extend_from_slice(statuses.bytes())?;
-    text.extend_from_slice(summary.as_bytes())?;
-    Ok(Text::from_vec(text))
+    let mut text = report.text;
+    push_statuses(alloc, &statuses, &mut text)?;
+    text.push_str(summary.as_str())?;
+    Ok(Text::from_vec(text.into_bytes()))
 }
 
 fn summary_line(alloc: Global, report: &Report) -> Result<String, NoMemory>

@@ -8,6 +8,7 @@ mod attachment;
 mod edge;
 mod faults;
 mod limits;
+mod references;
 mod runs;
 
 const CLASS: &str =
@@ -18,6 +19,19 @@ const GATEWAY: &str =
 
 const ROUTE: &str =
     r#"{"type":"ADDED","object":{"apiVersion":"gateway.networking.k8s.io/v1","kind":"HTTPRoute","metadata":{"name":"r"},"spec":{"parentRefs":[{"name":"g"}],"rules":[{"backendRefs":[{"name":"s","port":80}]}]}}}"#;
+
+const SERVICE: &str =
+    r#"{"type":"ADDED","object":{"apiVersion":"v1","kind":"Service","metadata":{"name":"s"},"spec":{"ports":[{"port":80}]}}}"#;
+
+const SLICE: &str =
+    r#"{"type":"ADDED","object":{"apiVersion":"discovery.k8s.io/v1","kind":"EndpointSlice","metadata":{"name":"s-1","labels":{"kubernetes.io/service-name":"s"}},"addressType":"IPv4","ports":[{"port":8080}],"endpoints":[{"addresses":["10.0.0.1"]}]}}"#;
+
+const CLASS_STATUS: &str =
+    r#"{"kind":"GatewayClass","name":"c","status":{"conditions":[{"reason":"Accepted","status":"True","type":"Accepted"}]}}"#;
+
+// The Gateway `default/g` with a door, and one Route attached to it.
+const GATEWAY_STATUS: &str =
+    r#"{"kind":"Gateway","name":"g","namespace":"default","status":{"addresses":[{"type":"IPAddress","value":"127.0.0.1"}],"conditions":[{"reason":"Accepted","status":"True","type":"Accepted"},{"reason":"Programmed","status":"True","type":"Programmed"}],"listeners":[{"attachedRoutes":1,"conditions":[{"reason":"Accepted","status":"True","type":"Accepted"},{"reason":"NoConflicts","status":"False","type":"Conflicted"},{"reason":"Programmed","status":"True","type":"Programmed"},{"reason":"ResolvedRefs","status":"True","type":"ResolvedRefs"}],"name":"http","supportedKinds":[{"group":"gateway.networking.k8s.io","kind":"HTTPRoute"}]}]}}"#;
 
 // What a run left: its exit code, what it wrote, and what it left of its input.
 #[derive(Drop)]

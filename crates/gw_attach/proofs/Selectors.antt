@@ -1,11 +1,11 @@
 -- The meaning of a selector as its own crate has it, and as the model has it.
-use Rattle.std.proofs.Common.{◌≡◌, ℕ, List, [], ◌∷◌, ◌&&◌, Bool, Option, Some, None, refl, map}
+use Rattle.std.proofs.Common.{◌≡◌, ℕ, List, [], ◌∷◌, Option, Some, None, refl}
 use Rattle.std.specs.List.{list_all}
-use Rattle.gw_labels.specs.Selectors.{Requirement, meets, selects, holds}
+use Rattle.gw_labels.specs.Selectors.{Requirement, selects, holds}
 use Rattle.gw_labels.specs.declared.selector.Op.{Op}
 use Rattle.gw_labels.specs.declared.selector.Op.TheVariants.{In, NotIn, Exists, DoesNotExist}
 use Rattle.gw_text.specs.model.Selectors.{label_of, op_holds, is_required_of}
-use Rattle.gw_objects.specs.Seen.{seen_op, seen_requirement, seen_selector}
+use Rattle.gw_objects.specs.Seen.{seen_op, seen_selector}
 
 -- An operator means the same in both.
 op_is : (op : Op) (values : List (List ℕ)) (found : Option (List ℕ)) → holds op values found ≡ op_holds (seen_op op) values found

@@ -1,7 +1,10 @@
-ghost use Rattle.std.specs.Prelude.{◌≡◌, IfOk};
+ghost use Rattle.std.specs.Prelude.{◌≡◌, ◌||◌, ◌++◌, ℕ, List, IfOk, OnOk};
 ghost use Rattle.std.specs.List.{list_any};
 ghost use Rattle.gw_text.specs.model.Attachment as rules;
+ghost use Rattle.gw_text.specs.model.Gateways.{Gateway as PlainGateway};
+ghost use Rattle.gw_text.specs.model.Routes.{ParentRef as PlainParent};
 ghost use Rattle.gw_route.specs.Reasons.{condition_of};
+ghost use Rattle.gw_attach.specs.Places.{place_if};
 
 use crate::listener::{allows, has_common_hostname, selects};
 use gw_labels::Labels;
@@ -31,89 +34,92 @@ impl Model for Attachment {
     ghost view = { λ a. record { accepted = condition_of a.reason; listeners = a.listeners } };
 }
 
-fn selects_and_allows(
+/// What was found at the listeners so far.
+#[derive(Drop)]
+struct Found {
+    /// Whether the parentRef selects some listener.
+    selected: bool,
+    /// Whether some listener that it selects allows the Route.
+    allowed: bool,
+    /// Whether some of those has a hostname in common with it.
+    taken: bool,
+    places: Places,
+}
+
+// What is found at the listener at this place.
+fn visit(
     gateway: &Gateway,
     labels: &Labels,
     route: &HttpRoute,
     parent: &ParentRef,
+    place: usize,
     listener: &Listener,
-) -> bool
-    ensures { result ≡ rules.selects_and_allows gateway.now labels.now route.now parent.now listener.now }
+    found: &mut Found,
+) -> Result<(), NoMemory>
+    ensures selected { OnOk result (found.new.selected ≡ (found.old.selected || rules.selects parent.now listener.now)) }
+    ensures allowed { OnOk result (found.new.allowed ≡ (found.old.allowed || rules.selects_and_allows gateway.now labels.now route.now parent.now listener.now)) }
+    ensures taken { OnOk result (found.new.taken ≡ (found.old.taken || rules.takes gateway.now labels.now route.now parent.now listener.now)) }
+    ensures places { OnOk result (found.new.places ≡ found.old.places ++ place_if (rules.takes gateway.now labels.now route.now parent.now listener.now) place) }
 {
-    selects(parent, listener) && allows(gateway, labels, route, listener)
-}
-
-fn takes(
-    gateway: &Gateway,
-    labels: &Labels,
-    route: &HttpRoute,
-    parent: &ParentRef,
-    listener: &Listener,
-) -> bool
-    ensures { result ≡ rules.takes gateway.now labels.now route.now parent.now listener.now }
-{
-    selects_and_allows(gateway, labels, route, parent, listener)
-        && has_common_hostname(listener, route.hostnames.as_slice())
-}
-
-fn has_selected(gateway: &Gateway, parent: &ParentRef) -> bool
-    ensures { result ≡ list_any (rules.selects parent.now) gateway.now.listeners }
-{
-    gateway
-        .listeners
-        .iter()
-        .any(|listener| selects(parent, listener))
-}
-
-fn has_allowing(gateway: &Gateway, labels: &Labels, route: &HttpRoute, parent: &ParentRef) -> bool
-    ensures { result ≡ list_any (rules.selects_and_allows gateway.now labels.now route.now parent.now) gateway.now.listeners }
-{
-    gateway.listeners.iter().any(|listener| selects_and_allows(
-        gateway, labels, route, parent, listener,
-    ))
-}
-
-fn has_taking(gateway: &Gateway, labels: &Labels, route: &HttpRoute, parent: &ParentRef) -> bool
-    ensures { result ≡ list_any (rules.takes gateway.now labels.now route.now parent.now) gateway.now.listeners }
-{
-    gateway
-        .listeners
-        .iter()
-        .any(|listener| takes(gateway, labels, route, parent, listener))
-}
-
-// The first reason that holds.
-#[tactic(auto, unfolding(gw_text::specs::model::Attachment::route_accepted_of))]
-fn reason(gateway: &Gateway, labels: &Labels, route: &HttpRoute, parent: &ParentRef) -> RouteReason
-    ensures { condition_of result ≡ rules.route_accepted_of gateway.now labels.now route.now parent.now }
-{
-    if !has_selected(gateway, parent) {
-        RouteReason::NoMatchingParent
-    } else if !has_allowing(gateway, labels, route, parent) {
-        RouteReason::NotAllowedByListeners
-    } else if !has_taking(gateway, labels, route, parent) {
-        RouteReason::NoMatchingListenerHostname
-    } else {
-        unsupported(route).unwrap_or(RouteReason::Accepted)
+    if !selects(parent, listener) {
+        return Ok(());
     }
+    found.selected = true;
+    if !allows(gateway, labels, route, listener) {
+        return Ok(());
+    }
+    found.allowed = true;
+    if !has_common_hostname(listener, route.hostnames.as_slice()) {
+        return Ok(());
+    }
+    found.taken = true;
+    found.places.push(place)?;
+    Ok(())
 }
 
-fn places(
+// What is found at all listeners of the Gateway.
+fn visit_all(
     alloc: Global,
     gateway: &Gateway,
     labels: &Labels,
     route: &HttpRoute,
     parent: &ParentRef,
-) -> Result<Places, NoMemory>
-    ensures { IfOk result (λ places. places ≡ rules.places_of (rules.takes gateway.now labels.now route.now parent.now) gateway.now.listeners) }
+) -> Result<Found, NoMemory>
+    ensures selected { IfOk result (λ found. found.selected ≡ list_any (rules.selects parent.now) gateway.now.listeners) }
+    ensures allowed { IfOk result (λ found. found.allowed ≡ list_any (rules.selects_and_allows gateway.now labels.now route.now parent.now) gateway.now.listeners) }
+    ensures taken { IfOk result (λ found. found.taken ≡ list_any (rules.takes gateway.now labels.now route.now parent.now) gateway.now.listeners) }
+    ensures places { IfOk result (λ found. found.places ≡ rules.places_of (rules.takes gateway.now labels.now route.now parent.now) gateway.now.listeners) }
 {
-    let mut places = Places::new(alloc);
+    let mut found = Found {
+        selected: false,
+        allowed: false,
+        taken: false,
+        places: Places::new(alloc),
+    };
     'listeners: for (place, listener) in gateway.listeners.iter().enumerate() {
-        if takes(gateway, labels, route, parent, listener) {
-            places.push(place)?;
-        }
+        visit(gateway, labels, route, parent, place, listener, &mut found)?;
     }
-    Ok(places)
+    Ok(found)
+}
+
+// The first reason that holds.
+#[tactic(auto, unfolding(gw_text::specs::model::Attachment::route_accepted_of))]
+fn reason(found: &Found, route: &HttpRoute) -> RouteReason
+    ensures { (gateway : PlainGateway) (labels : List (List ℕ × List ℕ)) (parent : PlainParent) →
+        found.now.selected ≡ list_any (rules.selects parent) gateway.listeners →
+        found.now.allowed ≡ list_any (rules.selects_and_allows gateway labels route.now parent) gateway.listeners →
+        found.now.taken ≡ list_any (rules.takes gateway labels route.now parent) gateway.listeners →
+        condition_of result ≡ rules.route_accepted_of gateway labels route.now parent }
+{
+    if !found.selected {
+        RouteReason::NoMatchingParent
+    } else if !found.allowed {
+        RouteReason::NotAllowedByListeners
+    } else if !found.taken {
+        RouteReason::NoMatchingListenerHostname
+    } else {
+        unsupported(route).unwrap_or(RouteReason::Accepted)
+    }
 }
 
 /// The attachment of a Route, whose namespace has these labels, by a parentRef that names the Gateway.
@@ -127,9 +133,10 @@ pub fn attach(
 ) -> Result<Attachment, NoMemory>
     ensures { IfOk result (λ a. a ≡ rules.attachment_of g.now labels.now route.now parent.now) }
 {
-    let reason = reason(g, labels, route, parent);
+    let found = visit_all(alloc, g, labels, route, parent)?;
+    let reason = reason(&found, route);
     let listeners = match reason {
-        RouteReason::Accepted => places(alloc, g, labels, route, parent)?,
+        RouteReason::Accepted => found.places,
         _ => Places::new(alloc),
     };
     Ok(Attachment { reason, listeners })

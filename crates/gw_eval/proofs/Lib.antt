@@ -1,2 +1,5 @@
-pub mod Rows
 pub mod Counting
+pub mod FirstOf
+pub mod Growing
+pub mod Places
+pub mod Rows

@@ -1,4 +1,4 @@
-ghost use Rattle.std.specs.Prelude.{◌≡◌, ◌<◌, ℕ, IfOk, length, map, get_or};
+ghost use Rattle.std.specs.Prelude.{◌≡◌, ◌+◌, ◌<◌, ℕ, IfOk, OnOk, length, map, get_or};
 ghost use Rattle.std.specs.List.{enumerate_from};
 ghost use Rattle.gw_text.specs.model.Listeners as rules;
 ghost use Rattle.gw_text.specs.model.Statuses as statuses;
@@ -11,8 +11,9 @@ use gw_listener::{gateway_state, listener_states};
 use gw_objects::{Gateway, Listener};
 use gw_status::{GatewayStatus, GatewayStatuses, ListenerState, ListenerStatus, ListenerStatuses};
 use gw_store::World;
-use gw_text::{Doors, NoMemory, Text};
+use gw_text::{Doors, NoMemory, Steps, Text};
 use std::alloc::Global;
+use std::sync::ledger::Ledger;
 
 fn listener_status(
     alloc: Global,
@@ -50,9 +51,9 @@ fn listener_statuses(
     Ok(all)
 }
 
-// The status of a Gateway, to whose listeners so many Routes are attached.
+/// The status of a Gateway, to whose listeners so many Routes are attached.
 #[tactic(auto, using(crate::proofs::Rows::statuses_with), unfolding(gw_text::specs::model::Statuses::gateway_status_of))]
-fn gateway_status(
+pub fn gateway_status(
     alloc: Global,
     controller: &Text,
     doors: &Doors,
@@ -73,21 +74,24 @@ fn gateway_status(
     })
 }
 
-/// The statuses of the managed Gateways, in key order.
+/// The statuses of the managed Gateways, in key order. A step for each Gateway, managed or not.
 #[tactic(auto, using(crate::proofs::Rows::row_length, crate::proofs::Rows::rows_length))]
-pub fn gateway_statuses(
+pub fn gateway_statuses<L: Ledger>(
     alloc: Global,
     controller: &Text,
     doors: &Doors,
     world: &World,
     counts: &Counts,
+    steps: &mut Steps<L>,
 ) -> Result<GatewayStatuses, NoMemory>
     requires rows { AreRows world.now.world counts.now }
     requires numbers { AreNumbers world.now.world counts.now (λ s place. statuses.attached_at controller.now world.now.world (gateway_key s.object) place) }
-    ensures { IfOk result (λ all. all ≡ statuses.gateway_statuses_of doors.now controller.now world.now.world) }
+    ensures statuses { IfOk result (λ all. all ≡ statuses.gateway_statuses_of doors.now controller.now world.now.world) }
+    ensures steps { OnOk result (steps.new ≡ steps.old + length world.now.world.gateways) }
 {
     let mut all = GatewayStatuses::new(alloc);
     'gateways: for (place, gateway) in world.gateways().iter().enumerate() {
+        steps.tick();
         if is_managed(alloc, controller, world, gateway)? {
             let attached = counts.of_gateway(place);
             all.push(gateway_status(alloc, controller, doors, world, gateway, attached)?)?;

@@ -6,3 +6,4 @@ pub mod Filters
 pub mod Backends
 pub mod Routes
 pub mod Reasons
+pub mod States

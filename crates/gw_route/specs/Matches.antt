@@ -1,5 +1,5 @@
 -- The matches of a rule, line by line. Source: HTTPRouteMatch of the Gateway API reference.
-use Rattle.std.specs.Prelude.{ℕ, List, [], ◌∷◌, codes, None, Result, Ok}
+use Rattle.std.specs.Prelude.{List, [], ◌∷◌, codes, None, Result, Ok}
 use Rattle.gw_json.specs.declared.refusal.Refusal.{Refusal}
 use Rattle.gw_json.specs.Words.{◌>>=◌}
 use Rattle.gw_json.specs.Fields.{Node}

@@ -1,19 +1,35 @@
-ghost use Rattle.std.specs.Prelude.{◌≡◌};
+ghost use Rattle.std.specs.Prelude.{◌≡◌, IfOk};
 ghost use Rattle.gw_json.specs.Words.{Gives};
 ghost use Rattle.gw_json.specs.Fields.{node_of};
-ghost use Rattle.gw_text.specs.model.Routes.{is_core_service};
+ghost use Rattle.gw_text.specs.model.Routes.{is_core_service, backend_key};
 ghost use Rattle.gw_route.specs.Backends as backends;
 
 use crate::plain::BackendRef;
 use gw_forms as forms;
 use gw_json::{Cursor, Form, Number32, Port, Refusal};
-use gw_text::{NamespaceName, Text};
+use gw_text::{Key, NamespaceName, NoMemory, Text};
 use std::alloc::Global;
 
 fn is_service(group: &Text, kind: &Text) -> bool
     ensures { result ≡ is_core_service group.now kind.now }
 {
     group.bytes().is_empty() && kind.bytes() == b"Service".as_slice()
+}
+
+impl BackendRef {
+    /// Whether its group and kind are those of a Service.
+    pub fn names_service(&self) -> bool
+        ensures { result ≡ is_core_service self.now.group self.now.kind }
+    {
+        is_service(&self.group, &self.kind)
+    }
+
+    /// The key that it names.
+    pub fn key(&self, alloc: Global) -> Result<Key, NoMemory>
+        ensures { IfOk result (λ key. key ≡ backend_key self.now) }
+    {
+        Ok(Key::new(self.namespace.copy(alloc)?, self.name.copy(alloc)?))
+    }
 }
 
 #[tactic(auto, unfolding(crate::specs::Backends::backend_port_of))]

@@ -3,6 +3,7 @@
 #![tactic(auto)]
 
 mod backend;
+mod copies;
 mod field_names;
 mod filter;
 mod matching;
@@ -10,12 +11,15 @@ mod parent;
 mod plain;
 mod reason;
 mod route;
+mod state;
 mod support;
 
+pub use copies::copy_filters;
 pub use plain::{
-    BackendRef, Edits, Filter, HeaderMatch, HttpRoute, Match, ParentRef, PathMatch, PathModifier,
-    QueryParamMatch, Redirect, Rewrite, Rule,
+    BackendRef, Edits, Filter, Filters, HeaderMatch, HttpRoute, Match, ParentRef, PathMatch,
+    PathModifier, QueryParamMatch, Redirect, Rewrite, Rule,
 };
 pub use reason::RouteReason;
 pub use route::read_route;
+pub use state::BackendState;
 pub use support::unsupported;

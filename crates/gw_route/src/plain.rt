@@ -1,6 +1,6 @@
 //! HTTPRoutes and their parts, with the defaults of absent fields filled in. A field `type` is called `sort`.
 use gw_text::{
-    Fields, Host, Meta, Name, Names, NamespaceName, PathMatchType, Text, ValueMatchType,
+    Fields, Host, List, Meta, Name, Names, NamespaceName, PathMatchType, Text, ValueMatchType,
 };
 use std::marker::Model;
 
@@ -161,6 +161,9 @@ pub enum Filter {
     /// A type that isn't read further, by its name.
     Other(Text),
 }
+
+/// Filters in their order.
+pub type Filters = List<Filter>;
 
 /// Where a rule sends requests.
 #[derive(Drop)]

@@ -1,12 +1,12 @@
 -- What is printed has no floats.
 use Rattle.std.proofs.Common.{◌≡◌, Bool, true, false, Option, Some, None, ℕ, List, refl}
-use Rattle.serde_json.specs.Data.{Members, object, number, unsigned, string}
+use Rattle.serde_json.specs.Data.{object}
 use Rattle.serde_json.specs.Written.{has_float, items_have_float}
 use Rattle.serde_json.specs.View.{items_of}
 use Rattle.gw_json.proofs.Floats.{items_have_float-map}
 use Rattle.gw_text.specs.model.Addresses.{Socket}
 use Rattle.gw_text.specs.model.Statuses.{ClassStatus, ListenerStatus, GatewayStatus, ParentStatus, RouteStatus}
-use Rattle.gw_status.specs.StatusText.{class_data, supported_kinds, listener_data, addresses_of, gateway_data, with_given, parent_key_members, parent_ref_members, parent_data, route_data}
+use Rattle.gw_status.specs.StatusText.{class_data, supported_kinds, listener_data, addresses_of, gateway_data, parent_key_members, parent_ref_members, parent_data, route_data}
 
 kinds_have_no_float : (http : Bool) → items_have_float (items_of (supported_kinds http)) ≡ false
 kinds_have_no_float true = refl

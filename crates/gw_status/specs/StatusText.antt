@@ -112,12 +112,20 @@ parent_ref_members s =
     (with_given (codes "port") (λ port. number (unsigned port)) s.port
     (parent_key_members s))
 
+-- The conditions of a Route's entry, in the byte order of their types.
+abbrev pub parent_conditions : ParentStatus → List Condition
+parent_conditions s = s.accepted ∷ s.resolved ∷ []
+
 -- The entry of a Route for one of its parentRefs.
 unfoldable pub parent_data : ParentStatus → Data
 parent_data s =
-    object (member (codes "conditions") (conditions_data (s.accepted ∷ []))
+    object (member (codes "conditions") (conditions_data (parent_conditions s))
     (member (codes "controllerName") (string (printed s.controller))
     (member (codes "parentRef") (object (parent_ref_members s)) no_members)))
+
+-- The status of a Route.
+abbrev pub route_status_data : RouteStatus → Data
+route_status_data s = object (member (codes "parents") (array (items_of (map parent_data s.parents))) no_members)
 
 -- An HTTPRoute.
 unfoldable pub route_data : RouteStatus → Data
@@ -125,7 +133,7 @@ route_data s =
     object (member (codes "kind") (string (codes "HTTPRoute"))
     (member (codes "name") (string (printed s.key.name))
     (member (codes "namespace") (string (printed s.key.namespace))
-    (member (codes "status") (object (member (codes "parents") (array (items_of (map parent_data s.parents))) no_members)) no_members))))
+    (member (codes "status") (route_status_data s) no_members))))
 
 -- A line for each class.
 abbrev pub classes_text : List ClassStatus → List ℕ

@@ -1,6 +1,7 @@
 //! The statuses of classes, Gateways, listeners and Routes, and their text.
 #![tactic(auto)]
 
+mod send;
 mod state;
 mod status;
 mod write;
@@ -11,4 +12,4 @@ pub use status::{
     ClassStatus, ClassStatuses, GatewayStatus, GatewayStatuses, ListenerStatus, ListenerStatuses,
     ParentStatus, ParentStatuses, RouteStatus, RouteStatuses, Statuses,
 };
-pub use write::write_statuses;
+pub use write::{push_statuses, write_statuses};

@@ -76,6 +76,7 @@ pub struct ParentStatus {
     pub section: Option<Name>,
     pub port: Option<u16>,
     pub accepted: Condition,
+    pub resolved: Condition,
 }
 
 impl Model for ParentStatus {
@@ -83,7 +84,7 @@ impl Model for ParentStatus {
 
     ghost Value = { Plain };
 
-    ghost view = { λ s. record { controller = s.controller; namespace = s.namespace; name = s.name; section = s.section; port = s.port; accepted = s.accepted } };
+    ghost view = { λ s. record { controller = s.controller; namespace = s.namespace; name = s.name; section = s.section; port = s.port; accepted = s.accepted; resolved = s.resolved } };
 }
 
 /// The status of a Route.

@@ -1,19 +1,18 @@
 ghost use Rattle.std.specs.Prelude.{◌≡◌, ◌++◌, IfOk, OnOk, codes, string_bytes, map};
-ghost use Rattle.serde_json.specs.Data.{number, unsigned, string};
-ghost use Rattle.serde_json.specs.View.{view, members_view};
-ghost use Rattle.gw_text.specs.model.Forms.{printed};
+ghost use Rattle.serde_json.specs.View.{view};
+ghost use Rattle.serde_json.specs.Written.{compact_text};
 ghost use Rattle.gw_json.specs.Lines.{line_of};
-ghost use Rattle.gw_status.specs.StatusText.{truth_text, condition_data, http_route_data, supported_kinds, class_data, listener_data, address_data, addresses_of, gateway_status_data, gateway_data, with_given, parent_key_members, parent_ref_members, parent_data, route_data, route_line, classes_text, gateways_text, routes_text, statuses_text};
+ghost use Rattle.gw_status.specs.StatusText.{truth_text, condition_data, http_route_data, supported_kinds, class_data, listener_data, address_data, addresses_of, gateway_status_data, gateway_data, route_data, route_line, classes_text, gateways_text, routes_text, statuses_text};
 
-use crate::status::{
-    ClassStatus, GatewayStatus, ListenerStatus, ParentStatus, RouteStatus, Statuses,
-};
+use crate::send::RouteLine;
+use crate::status::{ClassStatus, GatewayStatus, ListenerStatus, RouteStatus, Statuses};
 use gw_json::push_line;
-use gw_text::{Condition, GATEWAY_GROUP, Name, NoMemory, Socket, Text};
-use serde_json::{Map, Value, json, put};
+use gw_text::{Condition, GATEWAY_GROUP, NoMemory, Socket, Text};
+use serde_json::{Value, json};
 use std::alloc::Global;
 
-fn truth(is: bool) -> &'static str
+/// The status of a condition.
+pub fn truth(is: bool) -> &'static str
     ensures { result.now ≡ truth_text is }
 {
     if is { "True" } else { "False" }
@@ -126,98 +125,6 @@ fn gateway_value(alloc: Global, status: &GatewayStatus) -> Result<Value, NoMemor
     json!(in alloc; {"kind": "Gateway", "name": name.as_str(), "namespace": namespace.as_str(), "status": status})
 }
 
-fn put_name(
-    alloc: Global,
-    members: &mut Map<String, Value>,
-    key: &str,
-    name: &Option<Name>,
-) -> Result<(), NoMemory>
-    ensures { OnOk result (members_view members.new.entries ≡ with_given key.now (λ name. string (printed name)) name.now (members_view members.old.entries)) }
-{
-    if let Some(name) = name {
-        let name = name.printed(alloc)?;
-        put(members, alloc, key, Value::String(name))?;
-    }
-    Ok(())
-}
-
-fn put_port(
-    alloc: Global,
-    members: &mut Map<String, Value>,
-    port: Option<u16>,
-) -> Result<(), NoMemory>
-    ensures { OnOk result (members_view members.new.entries ≡ with_given (codes "port") (λ port. number (unsigned port)) port (members_view members.old.entries)) }
-{
-    if let Some(port) = port {
-        put(members, alloc, "port", Value::from(port))?;
-    }
-    Ok(())
-}
-
-#[tactic(auto, unfolding(crate::specs::StatusText::parent_key_members, gw_text::specs::model::Kinds::gateway_group))]
-fn parent_key(alloc: Global, status: &ParentStatus) -> Result<Map<String, Value>, NoMemory>
-    ensures { IfOk result (λ members. members_view members.entries ≡ parent_key_members status.now) }
-{
-    let name = status.name.printed(alloc)?;
-    let namespace = status.namespace.printed(alloc)?;
-    let mut members = Map::new(alloc);
-    put(
-        &mut members,
-        alloc,
-        "group",
-        Value::try_from_str(alloc, GATEWAY_GROUP)?,
-    )?;
-    put(
-        &mut members,
-        alloc,
-        "kind",
-        Value::try_from_str(alloc, "Gateway")?,
-    )?;
-    put(&mut members, alloc, "name", Value::String(name))?;
-    put(&mut members, alloc, "namespace", Value::String(namespace))?;
-    Ok(members)
-}
-
-#[tactic(auto, unfolding(crate::specs::StatusText::parent_ref_members))]
-fn parent_ref(alloc: Global, status: &ParentStatus) -> Result<Map<String, Value>, NoMemory>
-    ensures { IfOk result (λ members. members_view members.entries ≡ parent_ref_members status.now) }
-{
-    let mut members = parent_key(alloc, status)?;
-    put_port(alloc, &mut members, status.port)?;
-    put_name(alloc, &mut members, "sectionName", &status.section)?;
-    Ok(members)
-}
-
-#[tactic(auto, unfolding(crate::specs::StatusText::parent_data))]
-fn parent_value(alloc: Global, status: &ParentStatus) -> Result<Value, NoMemory>
-    ensures { IfOk result (λ v. view v ≡ parent_data status.now) }
-{
-    let controller = status.controller.printed(alloc)?;
-    let conditions = condition_values(alloc, &[status.accepted])?;
-    let parent_ref = Value::from(parent_ref(alloc, status)?);
-    json!(in alloc; {"conditions": Value::Array(conditions), "controllerName": controller.as_str(), "parentRef": parent_ref})
-}
-
-fn parent_values(alloc: Global, statuses: &[ParentStatus]) -> Result<Vec<Value>, NoMemory>
-    ensures { IfOk result (λ v. map view v.items ≡ map parent_data statuses.now) }
-{
-    let mut values = Vec::new(alloc);
-    'statuses: for status in statuses {
-        values.push(parent_value(alloc, status)?)?;
-    }
-    Ok(values)
-}
-
-#[tactic(auto, unfolding(crate::specs::StatusText::route_data))]
-fn route_value(alloc: Global, status: &RouteStatus) -> Result<Value, NoMemory>
-    ensures { IfOk result (λ v. view v ≡ route_data status.now) }
-{
-    let name = status.key.name.printed(alloc)?;
-    let namespace = status.key.namespace.printed(alloc)?;
-    let parents = parent_values(alloc, status.parents.as_slice())?;
-    json!(in alloc; {"kind": "HTTPRoute", "name": name.as_str(), "namespace": namespace.as_str(), "status": {"parents": Value::Array(parents)}})
-}
-
 #[tactic(auto, using(crate::proofs::Floats::class_has_no_float))]
 fn push_class(alloc: Global, status: &ClassStatus, text: &mut String) -> Result<(), NoMemory>
     ensures { OnOk result (string_bytes text.new ≡ string_bytes text.old ++ line_of (class_data status.now)) }
@@ -256,15 +163,25 @@ fn push_gateways(
     Ok(())
 }
 
-#[tactic(auto, using(crate::proofs::Floats::route_has_no_float))]
+// The line of a Route, with its entries.
+fn route_text(alloc: Global, status: &RouteStatus) -> Result<String, NoMemory>
+    ensures { IfOk result (λ line. string_bytes line ≡ compact_text (route_data status.now)) }
+{
+    match serde_json::to_string(alloc, &RouteLine { alloc, status }) {
+        Ok(line) => Ok(line),
+        Err(_) => Err(NoMemory),
+    }
+}
+
 fn push_route(alloc: Global, status: &RouteStatus, text: &mut String) -> Result<(), NoMemory>
     ensures { OnOk result (string_bytes text.new ≡ string_bytes text.old ++ route_line status.now status.now.parents) }
 {
     if status.parents.as_slice().is_empty() {
         return Ok(());
     }
-    let value = route_value(alloc, status)?;
-    push_line(alloc, text, &value)
+    let line = route_text(alloc, status)?;
+    text.push_str(line.as_str())?;
+    text.push('\n')
 }
 
 fn push_routes(alloc: Global, statuses: &[RouteStatus], text: &mut String) -> Result<(), NoMemory>
@@ -276,14 +193,21 @@ fn push_routes(alloc: Global, statuses: &[RouteStatus], text: &mut String) -> Re
     Ok(())
 }
 
-/// A line of JSON for each class, then one for each Gateway, then one for each Route that has entries.
+/// Adds a line of JSON for each class, then one for each Gateway, then one for each Route that has entries.
 #[tactic(auto, unfolding(crate::specs::StatusText::statuses_text))]
+pub fn push_statuses(alloc: Global, s: &Statuses, text: &mut String) -> Result<(), NoMemory>
+    ensures { OnOk result (string_bytes text.new ≡ string_bytes text.old ++ statuses_text s.now) }
+{
+    push_classes(alloc, s.classes.as_slice(), text)?;
+    push_gateways(alloc, s.gateways.as_slice(), text)?;
+    push_routes(alloc, s.routes.as_slice(), text)
+}
+
+/// The text of the statuses alone.
 pub fn write_statuses(alloc: Global, s: &Statuses) -> Result<Text, NoMemory>
     ensures { IfOk result (λ text. text ≡ statuses_text s.now) }
 {
     let mut text = String::new(alloc);
-    push_classes(alloc, s.classes.as_slice(), &mut text)?;
-    push_gateways(alloc, s.gateways.as_slice(), &mut text)?;
-    push_routes(alloc, s.routes.as_slice(), &mut text)?;
+    push_statuses(alloc, s, &mut text)?;
     Ok(Text::from_vec(text.into_bytes()))
 }

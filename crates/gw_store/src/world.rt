@@ -89,8 +89,9 @@ impl World {
     {
         match event {
             Event::Put(object) => {
+                // Whether there is room is known without a look-up.
                 let kind = object.kind();
-                !self.holds(kind, object.key()) && self.has_no_room(kind)
+                self.has_no_room(kind) && !self.holds(kind, object.key())
             }
             Event::Remove(_, _) => false,
         }

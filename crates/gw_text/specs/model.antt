@@ -21,6 +21,8 @@ pub mod Namespaces
 pub mod Objects
 pub mod Paths
 pub mod Picks
+pub mod Plans
+pub mod References
 pub mod RouteForms
 pub mod Routes
 pub mod Selectors

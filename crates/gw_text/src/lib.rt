@@ -15,6 +15,7 @@ mod meta;
 mod name;
 mod second;
 mod socket;
+mod steps;
 mod stored;
 mod text;
 mod types;
@@ -33,8 +34,9 @@ pub use name::{
     Name, NamespaceName, TextFault, is_hostname, is_name, is_namespace, is_precise_hostname,
 };
 pub use second::Second;
-pub use socket::Socket;
+pub use socket::{Socket, Sockets};
 pub use std::alloc::AllocError as NoMemory;
+pub use steps::Steps;
 pub use stored::{Incoming, Stored};
 pub use text::Text;
 pub use types::{

@@ -140,7 +140,7 @@ impl NamespaceName {
         }
     }
 
-    // The namespace that a text is. No public call makes one from an unread text.
+    /// The namespace that a text is. No public call makes one from an unread text.
     pub(crate) fn of_text(text: Text) -> Self
         requires { IsTrue (forms.is_namespace_or_none text) }
         ensures { result ≡ text }

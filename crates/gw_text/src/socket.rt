@@ -6,6 +6,7 @@ ghost use Rattle.gw_text.specs.model.Addresses as addresses;
 ghost use Rattle.gw_text.specs.model.Doors as doors;
 
 use crate::ipv4::parse_ipv4;
+use crate::list::List;
 use crate::name::TextFault;
 use crate::text::Text;
 use std::alloc::{AllocError, Global};
@@ -13,7 +14,7 @@ use std::marker::Model;
 use std::net::Ipv4Addr;
 
 /// An address of IPv4 and a port.
-#[derive(Clone, Copy, Debug, PartialEq, Eq)]
+#[derive(Clone, Copy, Debug, PartialEq, Eq, Hash)]
 pub struct Socket {
     pub a: u8,
     pub b: u8,
@@ -21,6 +22,9 @@ pub struct Socket {
     pub d: u8,
     pub port: u16,
 }
+
+/// Sockets in their order.
+pub type Sockets = List<Socket>;
 
 impl Model for Socket {
     ghost use Rattle.gw_text.specs.model.Addresses.{Socket as Plain};

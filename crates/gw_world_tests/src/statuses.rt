@@ -117,7 +117,7 @@ fn a_gateway_that_is_not_programmed(rt: HostRuntime) -> Result<(), Fail> {
 // A Route with two entries, and one without any, which has no line.
 const ROUTES: &[u8] =
     br#"{"kind":"GatewayClass","name":"c","status":{"conditions":[{"reason":"Accepted","status":"True","type":"Accepted"}]}}
-{"kind":"HTTPRoute","name":"r","namespace":"n","status":{"parents":[{"conditions":[{"reason":"Accepted","status":"True","type":"Accepted"}],"controllerName":"example.com/gateward","parentRef":{"group":"gateway.networking.k8s.io","kind":"Gateway","name":"g","namespace":"m"}},{"conditions":[{"reason":"NotAllowedByListeners","status":"False","type":"Accepted"}],"controllerName":"example.com/gateward","parentRef":{"group":"gateway.networking.k8s.io","kind":"Gateway","name":"g","namespace":"n","port":8080,"sectionName":"http"}}]}}
+{"kind":"HTTPRoute","name":"r","namespace":"n","status":{"parents":[{"conditions":[{"reason":"Accepted","status":"True","type":"Accepted"},{"reason":"ResolvedRefs","status":"True","type":"ResolvedRefs"}],"controllerName":"example.com/gateward","parentRef":{"group":"gateway.networking.k8s.io","kind":"Gateway","name":"g","namespace":"m"}},{"conditions":[{"reason":"NotAllowedByListeners","status":"False","type":"Accepted"},{"reason":"BackendNotFound","status":"False","type":"ResolvedRefs"}],"controllerName":"example.com/gateward","parentRef":{"group":"gateway.networking.k8s.io","kind":"Gateway","name":"g","namespace":"n","port":8080,"sectionName":"http"}}]}}
 "#;
 
 fn entry(
@@ -126,6 +126,7 @@ fn entry(
     section: Option<Name>,
     port: Option<u16>,
     accepted: Condition,
+    resolved: Condition,
 ) -> Result<ParentStatus, TextFault> {
     Ok(ParentStatus {
         controller: Text::of(alloc, "example.com/gateward")?,
@@ -134,6 +135,7 @@ fn entry(
         section,
         port,
         accepted,
+        resolved,
     })
 }
 
@@ -142,11 +144,13 @@ fn a_route_with_two_entries(rt: HostRuntime) -> Result<(), Fail> {
     let alloc = rt.alloc();
     let accepted = Condition::true_by(CondKind::Accepted, Reason::Accepted);
     let refused = Condition::false_by(CondKind::Accepted, Reason::NotAllowedByListeners);
+    let resolved = Condition::true_by(CondKind::ResolvedRefs, Reason::ResolvedRefs);
+    let unresolved = Condition::false_by(CondKind::ResolvedRefs, Reason::BackendNotFound);
     let mut statuses = class_alone(alloc, "c", accepted)?;
     let mut parents = List::new(alloc);
-    parents.push(entry(alloc, "m", None, None, accepted)?)?;
-    let section = Name::parse(alloc, "http")?;
-    parents.push(entry(alloc, "n", Some(section), Some(8080), refused)?)?;
+    parents.push(entry(alloc, "m", None, None, accepted, resolved)?)?;
+    let section = Some(Name::parse(alloc, "http")?);
+    parents.push(entry(alloc, "n", section, Some(8080), refused, unresolved)?)?;
     statuses.routes.push(RouteStatus {
         key: Key::parse(alloc, "n/r")?,
         parents,

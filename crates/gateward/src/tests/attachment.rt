@@ -11,7 +11,7 @@ const CASES: &[(&str, &str, &[&str])] = &[
         r#""parentRefs":[{"name":"g"}],"hostnames":["example.com","test.example.net"]"#,
         &[
             r#""listeners":[{"attachedRoutes":0,"#,
-            r#""parents":[{"conditions":[{"reason":"NoMatchingListenerHostname","status":"False","type":"Accepted"}]"#,
+            r#""parents":[{"conditions":[{"reason":"NoMatchingListenerHostname","status":"False","type":"Accepted"},{"reason":"ResolvedRefs","status":"True","type":"ResolvedRefs"}]"#,
         ],
     ),
     (
@@ -19,7 +19,7 @@ const CASES: &[(&str, &str, &[&str])] = &[
         r#""parentRefs":[{"name":"g"}],"rules":[{"matches":[{"path":{"type":"RegularExpression","value":"/a"}}]}]"#,
         &[
             r#""listeners":[{"attachedRoutes":0,"#,
-            r#""parents":[{"conditions":[{"reason":"UnsupportedValue","status":"False","type":"Accepted"}]"#,
+            r#""parents":[{"conditions":[{"reason":"UnsupportedValue","status":"False","type":"Accepted"},{"reason":"ResolvedRefs","status":"True","type":"ResolvedRefs"}]"#,
         ],
     ),
     (
@@ -27,7 +27,7 @@ const CASES: &[(&str, &str, &[&str])] = &[
         r#""parentRefs":[{"name":"g","sectionName":"a"},{"name":"g","sectionName":"a"}]"#,
         &[
             r#""listeners":[{"attachedRoutes":1,"#,
-            r#""parents":[{"conditions":[{"reason":"Accepted","status":"True","type":"Accepted"}],"controllerName":"gateward.example/controller","parentRef":{"group":"gateway.networking.k8s.io","kind":"Gateway","name":"g","namespace":"default","sectionName":"a"}},{"conditions":[{"reason":"Accepted","status":"True","type":"Accepted"}],"controllerName":"gateward.example/controller","parentRef":{"group":"gateway.networking.k8s.io","kind":"Gateway","name":"g","namespace":"default","sectionName":"a"}}]"#,
+            r#""parents":[{"conditions":[{"reason":"Accepted","status":"True","type":"Accepted"},{"reason":"ResolvedRefs","status":"True","type":"ResolvedRefs"}],"controllerName":"gateward.example/controller","parentRef":{"group":"gateway.networking.k8s.io","kind":"Gateway","name":"g","namespace":"default","sectionName":"a"}},{"conditions":[{"reason":"Accepted","status":"True","type":"Accepted"},{"reason":"ResolvedRefs","status":"True","type":"ResolvedRefs"}],"controllerName":"gateward.example/controller","parentRef":{"group":"gateway.networking.k8s.io","kind":"Gateway","name":"g","namespace":"default","sectionName":"a"}}]"#,
         ],
     ),
     (
@@ -35,7 +35,7 @@ const CASES: &[(&str, &str, &[&str])] = &[
         r#""parentRefs":[{"name":"g"}]"#,
         &[
             r#""listeners":[{"attachedRoutes":1,"#,
-            r#""parents":[{"conditions":[{"reason":"Accepted","status":"True","type":"Accepted"}]"#,
+            r#""parents":[{"conditions":[{"reason":"Accepted","status":"True","type":"Accepted"},{"reason":"ResolvedRefs","status":"True","type":"ResolvedRefs"}]"#,
         ],
     ),
     (
@@ -48,8 +48,8 @@ const CASES: &[(&str, &str, &[&str])] = &[
             r#""name":"b","#,
             r#"{"attachedRoutes":0,"#,
             r#""name":"c","#,
-            r#""port":80}},{"conditions":[{"reason":"Accepted","status":"True","type":"Accepted"}]"#,
-            r#""sectionName":"b"}},{"conditions":[{"reason":"NotAllowedByListeners","status":"False","type":"Accepted"}]"#,
+            r#""port":80}},{"conditions":[{"reason":"Accepted","status":"True","type":"Accepted"},{"reason":"ResolvedRefs","status":"True","type":"ResolvedRefs"}]"#,
+            r#""sectionName":"b"}},{"conditions":[{"reason":"NotAllowedByListeners","status":"False","type":"Accepted"},{"reason":"ResolvedRefs","status":"True","type":"ResolvedRefs"}]"#,
             r#""sectionName":"c"}}]"#,
         ],
     ),

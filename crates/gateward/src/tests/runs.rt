@@ -1,28 +1,19 @@
 // The worked runs: an input, its words and the text that they give.
-use super::{CLASS, GATEWAY, ROUTE, joined, run_on};
+use super::{CLASS, CLASS_STATUS, GATEWAY, GATEWAY_STATUS, ROUTE, SERVICE, SLICE, joined, run_on};
 use std::alloc::AllocError;
 use std::process::Abort;
 use std::test::*;
 
-const SERVICE: &str =
-    r#"{"type":"ADDED","object":{"apiVersion":"v1","kind":"Service","metadata":{"name":"s"},"spec":{"ports":[{"port":80}]}}}"#;
-
 const SERVICE_DELETED: &str =
     r#"{"type":"DELETED","object":{"apiVersion":"v1","kind":"Service","metadata":{"name":"s"},"spec":7}}"#;
-
-const SLICE: &str =
-    r#"{"type":"ADDED","object":{"apiVersion":"discovery.k8s.io/v1","kind":"EndpointSlice","metadata":{"name":"s-1","labels":{"kubernetes.io/service-name":"s"}},"addressType":"IPv4","ports":[{"port":8080}],"endpoints":[{"addresses":["10.0.0.1"]}]}}"#;
 
 // A Route as an API server writes it.
 const FULL_ROUTE: &str =
     r#"{"type":"MODIFIED","object":{"apiVersion":"gateway.networking.k8s.io/v1","kind":"HTTPRoute","metadata":{"creationTimestamp":"2024-05-01T10:00:00Z","generation":2,"managedFields":[{"manager":"kubectl"}],"name":"r","namespace":"default","resourceVersion":"912","uid":"0b7e"},"spec":{"hostnames":["shop.example.com"],"parentRefs":[{"group":"gateway.networking.k8s.io","kind":"Gateway","name":"g"}],"rules":[{"backendRefs":[{"group":"","kind":"Service","name":"s","port":80,"weight":1}],"matches":[{"path":{"type":"PathPrefix","value":"/"}}]}]},"status":{"parents":[]}}}"#;
 
-const CLASS_STATUS: &str =
-    r#"{"kind":"GatewayClass","name":"c","status":{"conditions":[{"reason":"Accepted","status":"True","type":"Accepted"}]}}"#;
-
-// The entry of the Route `default/r` at the Gateway `default/g`.
+// The entry of the Route `default/r` at the Gateway `default/g`, its reference resolved.
 const ROUTE_STATUS: &str =
-    r#"{"kind":"HTTPRoute","name":"r","namespace":"default","status":{"parents":[{"conditions":[{"reason":"Accepted","status":"True","type":"Accepted"}],"controllerName":"gateward.example/controller","parentRef":{"group":"gateway.networking.k8s.io","kind":"Gateway","name":"g","namespace":"default"}}]}}"#;
+    r#"{"kind":"HTTPRoute","name":"r","namespace":"default","status":{"parents":[{"conditions":[{"reason":"Accepted","status":"True","type":"Accepted"},{"reason":"ResolvedRefs","status":"True","type":"ResolvedRefs"}],"controllerName":"gateward.example/controller","parentRef":{"group":"gateway.networking.k8s.io","kind":"Gateway","name":"g","namespace":"default"}}]}}"#;
 
 fn expect_run(
     rt: &(impl Abort + AllocGlobal),
@@ -41,15 +32,13 @@ fn expect_run(
 
 #[test]
 fn a_gateway_with_a_door(rt: HostRuntime) -> Result<(), Fail> {
-    let status =
-        r#"{"kind":"Gateway","name":"g","namespace":"default","status":{"addresses":[{"type":"IPAddress","value":"127.0.0.1"}],"conditions":[{"reason":"Accepted","status":"True","type":"Accepted"},{"reason":"Programmed","status":"True","type":"Programmed"}],"listeners":[{"attachedRoutes":1,"conditions":[{"reason":"Accepted","status":"True","type":"Accepted"},{"reason":"NoConflicts","status":"False","type":"Conflicted"},{"reason":"Programmed","status":"True","type":"Programmed"},{"reason":"ResolvedRefs","status":"True","type":"ResolvedRefs"}],"name":"http","supportedKinds":[{"group":"gateway.networking.k8s.io","kind":"HTTPRoute"}]}]}}"#;
     let lines = [CLASS, GATEWAY, ROUTE, SERVICE, SLICE];
     let summary = r#"{"changes":5,"refused":0,"skipped":0}"#;
     expect_run(
         &rt,
         "status default/g:80=127.0.0.1:18080",
         &lines,
-        &[CLASS_STATUS, status, ROUTE_STATUS, summary],
+        &[CLASS_STATUS, GATEWAY_STATUS, ROUTE_STATUS, summary],
         0,
     )?;
     Ok(())
@@ -59,12 +48,14 @@ fn a_gateway_with_a_door(rt: HostRuntime) -> Result<(), Fail> {
 fn a_gateway_without_a_door(rt: HostRuntime) -> Result<(), Fail> {
     let status =
         r#"{"kind":"Gateway","name":"g","namespace":"default","status":{"addresses":[],"conditions":[{"reason":"ListenersNotValid","status":"False","type":"Accepted"},{"reason":"AddressNotAssigned","status":"False","type":"Programmed"}],"listeners":[{"attachedRoutes":1,"conditions":[{"reason":"PortUnavailable","status":"False","type":"Accepted"},{"reason":"NoConflicts","status":"False","type":"Conflicted"},{"reason":"Invalid","status":"False","type":"Programmed"},{"reason":"ResolvedRefs","status":"True","type":"ResolvedRefs"}],"name":"http","supportedKinds":[{"group":"gateway.networking.k8s.io","kind":"HTTPRoute"}]}]}}"#;
+    let route =
+        r#"{"kind":"HTTPRoute","name":"r","namespace":"default","status":{"parents":[{"conditions":[{"reason":"Accepted","status":"True","type":"Accepted"},{"reason":"BackendNotFound","status":"False","type":"ResolvedRefs"}],"controllerName":"gateward.example/controller","parentRef":{"group":"gateway.networking.k8s.io","kind":"Gateway","name":"g","namespace":"default"}}]}}"#;
     let summary = r#"{"changes":3,"refused":0,"skipped":0}"#;
     expect_run(
         &rt,
         "status",
         &[CLASS, GATEWAY, ROUTE],
-        &[CLASS_STATUS, status, ROUTE_STATUS, summary],
+        &[CLASS_STATUS, status, route, summary],
         0,
     )?;
     Ok(())

@@ -16,6 +16,7 @@ use Rattle.gw_text.specs.model.Doors.{Door}
 use Rattle.gw_text.specs.model.Conditions.{Condition, true_by, false_by}
 use Rattle.gw_text.specs.model.Listeners.{ListenerState, GatewayState, listener_state, gateway_state}
 use Rattle.gw_text.specs.model.Attachment.{Attachment, attachment_of}
+use Rattle.gw_text.specs.model.References.{resolved_refs_of}
 
 -- The status of a GatewayClass.
 pub record ClassStatus : Type 0 where
@@ -42,6 +43,7 @@ pub record ParentStatus : Type 0 where
   pub section : Option (List ℕ)
   pub port : Option ℕ
   pub accepted : Condition
+  pub resolved : Condition
 
 -- The status of a Route: its entries, in the order of its parentRefs.
 pub record RouteStatus : Type 0 where
@@ -121,20 +123,25 @@ gateway_status_of doors controller w g = record {
   listeners = listener_statuses_of doors controller w g;
 }
 
--- What an entry says. Source: RouteParentStatus.
-abbrev pub parent_status_of : List ℕ → Entry → ParentStatus
-parent_status_of controller e = record {
+-- What an entry says, for a Route whose references are so resolved. Source: RouteParentStatus.
+abbrev pub parent_status_of : List ℕ → Condition → Entry → ParentStatus
+parent_status_of controller resolved e = record {
   controller = controller;
   namespace = e.parent.namespace;
   name = e.parent.name;
   section = e.parent.section_name;
   port = e.parent.port;
   accepted = e.attachment.accepted;
+  resolved = resolved;
 }
+
+-- What the entries of a Route say, in their order.
+unfoldable pub parent_statuses_of : List ℕ → World → HttpRoute → List ParentStatus
+parent_statuses_of controller w r = map (parent_status_of controller (resolved_refs_of w r)) (entries_of controller w r)
 
 -- The status of a Route.
 abbrev pub route_status_of : List ℕ → World → HttpRoute → RouteStatus
-route_status_of controller w r = record { key = r.meta.key; parents = map (parent_status_of controller) (entries_of controller w r) }
+route_status_of controller w r = record { key = r.meta.key; parents = parent_statuses_of controller w r }
 
 -- The statuses of the classes of this controller.
 abbrev pub class_statuses_of : List ℕ → World → List ClassStatus

@@ -106,7 +106,7 @@ is_unsupported_rule r =
     || list_any (λ b. b.filters) r.backend_refs
     || r.timeouts
 
--- Which of the four types a filter has.
+-- A filter that edits fields of requests. Source: RequestHeaderModifier of HTTPRouteFilterType.
 abbrev pub is_request_edit : Filter → Bool
 is_request_edit (request_header_modifier e) = true
 is_request_edit (response_header_modifier e) = false
@@ -114,6 +114,7 @@ is_request_edit (request_redirect r) = false
 is_request_edit (url_rewrite w) = false
 is_request_edit (another_filter name) = false
 
+-- A filter that edits fields of replies. Source: ResponseHeaderModifier of HTTPRouteFilterType.
 abbrev pub is_response_edit : Filter → Bool
 is_response_edit (request_header_modifier e) = false
 is_response_edit (response_header_modifier e) = true
@@ -121,6 +122,7 @@ is_response_edit (request_redirect r) = false
 is_response_edit (url_rewrite w) = false
 is_response_edit (another_filter name) = false
 
+-- A filter that answers with a redirect. Source: RequestRedirect of HTTPRouteFilterType.
 abbrev pub is_redirect : Filter → Bool
 is_redirect (request_header_modifier e) = false
 is_redirect (response_header_modifier e) = false
@@ -128,6 +130,7 @@ is_redirect (request_redirect r) = true
 is_redirect (url_rewrite w) = false
 is_redirect (another_filter name) = false
 
+-- A filter that rewrites the target of requests. Source: URLRewrite of HTTPRouteFilterType.
 abbrev pub is_rewrite : Filter → Bool
 is_rewrite (request_header_modifier e) = false
 is_rewrite (response_header_modifier e) = false

@@ -3,7 +3,7 @@ use Rattle.std.proofs.Common.{◌≡◌, ◌∙◌, ◌<◌, ℕ, List, [], Vec,
 use Rattle.std.specs.Vec.{vec_items, with_items}
 use Rattle.std.proofs.lemmas.List.{get_or-map, map-set, length-map, with_items_is}
 use Rattle.std.proofs.Math.Seq.{map-set_same}
-use Rattle.gw_eval.specs.Counting.{Attached, number_at}
+use Rattle.gw_eval.specs.Counting.{Placed, number_at}
 use Rattle.gw_eval.proofs.Counting.{row_set}
 use Rattle.gw_eval.proofs.attached.Counts.count.Goals as goal
 
@@ -16,7 +16,7 @@ row_is rows old i vec slice view within is items =
 
 pub count_row-requires : goal.count_row-requires
 count_row-requires c =
-    let gateway = ap (λ (a : Attached). a.gateway) c.entry.view_is in
+    let gateway = ap (λ (p : Placed). p.gateway) c.entry.view_is in
     let within = subst (λ i. i < length c.args.self.now) (sym gateway) c.requires.gateway in
     let row = row_is _ _ c.entry.inside.gateway _ _ c.self.view_is within c.index_mut.ensures.value c.as_mut_slice.ensures.value in
     rw (← row) (λ place here. c.requires.room c.entry.inside.gateway place within here)
@@ -28,7 +28,7 @@ set_row rows old i vec row view items = map-set vec_items rows i vec ∙ ap (λ 
 
 pub returns-clause-rows : goal.returns-clause-rows
 returns-clause-rows c =
-    let gateway = ap (λ (a : Attached). a.gateway) c.entry.view_is in
+    let gateway = ap (λ (p : Placed). p.gateway) c.entry.view_is in
     let within = subst (λ i. i < length c.args.self.now) (sym gateway) c.requires.gateway in
     let row = row_is _ _ c.entry.inside.gateway _ _ c.self.view_is within c.index_mut.ensures.value c.as_mut_slice.ensures.value in
     let many = c.count_row.ensures.length ∙ ap length c.as_mut_slice.ensures.value in
@@ -38,7 +38,7 @@ returns-clause-rows c =
 
 pub returns-clause-numbers : goal.returns-clause-numbers
 returns-clause-numbers c =
-    let gateway = ap (λ (a : Attached). a.gateway) c.entry.view_is in
+    let gateway = ap (λ (p : Placed). p.gateway) c.entry.view_is in
     let within = subst (λ i. i < length c.args.self.now) (sym gateway) c.requires.gateway in
     let row = row_is _ _ c.entry.inside.gateway _ _ c.self.view_is within c.index_mut.ensures.value c.as_mut_slice.ensures.value in
     let here = subst (λ i. get_or c.args.self.now i [] ≡ c.as_mut_slice.result.now) gateway row in

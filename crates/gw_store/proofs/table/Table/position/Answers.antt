@@ -1,5 +1,5 @@
 -- The objects of the key are those at its place.
-use Rattle.std.proofs.Common.{ap, ◌∙◌, Some, sym}
+use Rattle.std.proofs.Common.{sym}
 use Rattle.gw_store.proofs.Places.{same_at, same_nowhere, found_at, stands_within, stored-missing}
 use Rattle.gw_store.proofs.table.Table.position.Goals as goal
 

@@ -1,0 +1,51 @@
+//! What the rules of Routes do.
+ghost use Rattle.std.specs.Prelude.{◌≡◌, IfOk, map};
+ghost use Rattle.gw_text.specs.model.Plans as rules;
+
+use crate::references::state;
+use gw_route::{BackendRef, HttpRoute, Rule, copy_filters};
+use gw_rows::{Backend, Backends, Plan, Plans};
+use gw_store::World;
+use gw_text::{NoMemory, Text};
+use std::alloc::Global;
+
+fn backend(
+    alloc: Global,
+    world: &World,
+    namespace: &Text,
+    to: &BackendRef,
+) -> Result<Backend, NoMemory>
+    ensures { IfOk result (λ backend. backend ≡ rules.backend_of world.now.world namespace.now to.now) }
+{
+    Ok(Backend {
+        weight: to.weight,
+        key: to.key(alloc)?,
+        port: to.port.unwrap_or(0),
+        state: state(alloc, world, namespace, to)?,
+    })
+}
+
+// The rule of a Route of this namespace.
+fn plan(alloc: Global, world: &World, namespace: &Text, rule: &Rule) -> Result<Plan, NoMemory>
+    ensures { IfOk result (λ plan. plan ≡ rules.plan_of world.now.world namespace.now rule.now) }
+{
+    let mut backends = Backends::new(alloc);
+    'refs: for to in rule.backend_refs.as_slice() {
+        backends.push(backend(alloc, world, namespace, to)?)?;
+    }
+    Ok(Plan {
+        filters: copy_filters(alloc, rule.filters.as_slice())?,
+        backends,
+    })
+}
+
+/// The rules of a Route, in list order.
+pub fn plans(alloc: Global, world: &World, route: &HttpRoute) -> Result<Plans, NoMemory>
+    ensures { IfOk result (λ all. all ≡ rules.plans_of world.now.world route.now) }
+{
+    let mut all = Plans::new(alloc);
+    'rules: for rule in route.rules.as_slice() {
+        all.push(plan(alloc, world, &route.meta.key.namespace, rule)?)?;
+    }
+    Ok(all)
+}
