@@ -1,4 +1,4 @@
-ghost use Rattle.std.specs.Prelude.{◌≡◌, ◌||◌, ◌++◌, ℕ, List, IfOk, OnOk};
+ghost use Rattle.std.specs.Prelude.{◌≡◌, ◌||◌, ◌++◌, [], ℕ, List, bytes_eq, IfOk, OnOk};
 ghost use Rattle.std.specs.List.{list_any};
 ghost use Rattle.gw_text.specs.model.Attachment as rules;
 ghost use Rattle.gw_text.specs.model.Gateways.{Gateway as PlainGateway};
@@ -6,7 +6,7 @@ ghost use Rattle.gw_text.specs.model.Routes.{ParentRef as PlainParent};
 ghost use Rattle.gw_route.specs.Reasons.{condition_of};
 ghost use Rattle.gw_attach.specs.Places.{place_if};
 
-use crate::listener::{allows, has_common_hostname, selects};
+use crate::listener::{Target, allows, has_common_hostname, is_own, selects};
 use gw_labels::Labels;
 use gw_objects::{Gateway, Listener};
 use gw_route::{HttpRoute, ParentRef, RouteReason, unsupported};
@@ -49,6 +49,7 @@ struct Found {
 // What is found at the listener at this place.
 fn visit(
     gateway: &Gateway,
+    is_own: bool,
     labels: &Labels,
     route: &HttpRoute,
     parent: &ParentRef,
@@ -56,6 +57,7 @@ fn visit(
     listener: &Listener,
     found: &mut Found,
 ) -> Result<(), NoMemory>
+    requires own { is_own ≡ bytes_eq gateway.now.meta.key.namespace route.now.meta.key.namespace }
     ensures selected { OnOk result (found.new.selected ≡ (found.old.selected || rules.selects parent.now listener.now)) }
     ensures allowed { OnOk result (found.new.allowed ≡ (found.old.allowed || rules.selects_and_allows gateway.now labels.now route.now parent.now listener.now)) }
     ensures taken { OnOk result (found.new.taken ≡ (found.old.taken || rules.takes gateway.now labels.now route.now parent.now listener.now)) }
@@ -65,7 +67,7 @@ fn visit(
         return Ok(());
     }
     found.selected = true;
-    if !allows(gateway, labels, route, listener) {
+    if !allows(&Target { gateway, is_own }, labels, route, listener) {
         return Ok(());
     }
     found.allowed = true;
@@ -77,14 +79,22 @@ fn visit(
     Ok(())
 }
 
-// What is found at all listeners of the Gateway.
+// No places, with room for all listeners of the Gateway.
+fn no_places(alloc: Global, gateway: &Gateway) -> Result<Places, NoMemory>
+    ensures { IfOk result (λ places. places ≡ []) }
+{
+    Ok(Places::from_vec(Vec::with_capacity(alloc, gateway.listeners.len())?))
+}
+
+// What is found at all listeners of the Gateway; the places are put into an empty list.
 fn visit_all(
-    alloc: Global,
+    places: Places,
     gateway: &Gateway,
     labels: &Labels,
     route: &HttpRoute,
     parent: &ParentRef,
 ) -> Result<Found, NoMemory>
+    requires { places ≡ [] }
     ensures selected { IfOk result (λ found. found.selected ≡ list_any (rules.selects parent.now) gateway.now.listeners) }
     ensures allowed { IfOk result (λ found. found.allowed ≡ list_any (rules.selects_and_allows gateway.now labels.now route.now parent.now) gateway.now.listeners) }
     ensures taken { IfOk result (λ found. found.taken ≡ list_any (rules.takes gateway.now labels.now route.now parent.now) gateway.now.listeners) }
@@ -94,10 +104,13 @@ fn visit_all(
         selected: false,
         allowed: false,
         taken: false,
-        places: Places::new(alloc),
+        places,
     };
+    let is_own = is_own(gateway, route);
     'listeners: for (place, listener) in gateway.listeners.iter().enumerate() {
-        visit(gateway, labels, route, parent, place, listener, &mut found)?;
+        visit(
+            gateway, is_own, labels, route, parent, place, listener, &mut found,
+        )?;
     }
     Ok(found)
 }
@@ -133,7 +146,7 @@ pub fn attach(
 ) -> Result<Attachment, NoMemory>
     ensures { IfOk result (λ a. a ≡ rules.attachment_of g.now labels.now route.now parent.now) }
 {
-    let found = visit_all(alloc, g, labels, route, parent)?;
+    let found = visit_all(no_places(alloc, g)?, g, labels, route, parent)?;
     let reason = reason(&found, route);
     let listeners = match reason {
         RouteReason::Accepted => found.places,
