@@ -1,0 +1,5 @@
+pub mod Entries
+pub mod Fitting
+pub mod Names
+pub mod Settings
+pub mod Untouched

@@ -1,0 +1,3 @@
+pub mod HeadBytes
+pub mod Inlets
+pub mod Judging

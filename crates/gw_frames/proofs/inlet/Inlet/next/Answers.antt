@@ -1,0 +1,52 @@
+-- A step, and the steps that were given before it.
+use Rattle.std.proofs.Common.{◌≡◌, [], Option, None, Ok, ap, subst, ◌∙◌}
+use Rattle.std.proofs.lemmas.Result.{IfOk-weaker}
+use Rattle.gw_frames.specs.Inlets.{ended_by, fresh, Goes, IsLast, IsStill}
+use Rattle.gw_frames.specs.declared.ended.Ended.{Ended}
+use Rattle.gw_frames.proofs.Inlets.{all_given, both_ok, goes_at_head, goes_on, last_again, last_at_head, stands_with}
+use Rattle.gw_frames.proofs.inlet.Inlet.next.Goals as goal
+
+pub returns-in-Some-clause-stands : goal.returns-in-Some-clause-stands
+returns-in-Some-clause-stands c = λ bytes steps stands.
+    stands_with c.args.self.now c.next_of_head.new.self c.in-Some.step bytes steps
+    (goes_at_head _ _ c.in-Some.step (rw c.in-Some.is at c.in_ok-step.ensures.heads) (rw c.in-Some.is at c.in_ok-step.ensures.goes)) stands
+
+pub returns-in-Some-clause-all : goal.returns-in-Some-clause-all
+returns-in-Some-clause-all c = λ bytes steps stands all.
+    all_given c.next_of_head.new.self c.in-Some.step bytes _ (rw c.in-Some.is at c.in_ok-step.ensures.need)
+    (stands_with c.args.self.now c.next_of_head.new.self c.in-Some.step bytes steps
+    (goes_at_head _ _ c.in-Some.step (rw c.in-Some.is at c.in_ok-step.ensures.heads) (rw c.in-Some.is at c.in_ok-step.ensures.goes)) stands) all
+
+pub returns-in-Some-clause-stays : goal.returns-in-Some-clause-stays
+returns-in-Some-clause-stays c = λ bytes steps stands.
+    last_again c.args.self.now c.in-Some.step bytes steps (last_at_head c.args.self.now c.in-Some.step (rw c.in-Some.is at c.in_ok-step.ensures.heads)) stands
+
+pub returns-clause-stands : goal.returns-clause-stands
+returns-clause-stands c =
+    let i = c.args.self.now in
+    let j = c.next_of_head.new.self in
+    let k = c.next_of_body.new.self in
+    let none : c.next_of_head.result ≡ Ok None = c.in_ok-step.was ∙ ap Ok c.in_default.is in
+    let goes : Goes i j [] = rw c.in_default.is at c.in_ok-step.ensures.goes in
+    IfOk-weaker c.next_of_body.result (λ step. Goes j k (fresh j.stage step)) _
+    (λ step on bytes steps stands. stands_with i k step bytes steps (goes_on i j k step goes (c.next_of_head.ensures.fresh none step) on) stands)
+    c.next_of_body.ensures.goes
+
+pub returns-clause-all : goal.returns-clause-all
+returns-clause-all c =
+    let i = c.args.self.now in
+    let j = c.next_of_head.new.self in
+    let k = c.next_of_body.new.self in
+    let none : c.next_of_head.result ≡ Ok None = c.in_ok-step.was ∙ ap Ok c.in_default.is in
+    let goes : Goes i j [] = rw c.in_default.is at c.in_ok-step.ensures.goes in
+    both_ok c.next_of_body.result (λ step. Goes j k (fresh j.stage step)) (IsStill k) _
+    (λ step on still bytes steps stands all. all_given k step bytes _ still
+    (stands_with i k step bytes steps (goes_on i j k step goes (c.next_of_head.ensures.fresh none step) on) stands) all)
+    c.next_of_body.ensures.goes c.next_of_body.ensures.need
+
+pub returns-clause-stays : goal.returns-clause-stays
+returns-clause-stays c =
+    let none : c.next_of_head.result ≡ Ok None = c.in_ok-step.was ∙ ap Ok c.in_default.is in
+    IfOk-weaker c.next_of_body.result (IsLast (ended_by c.next_of_head.new.self.stage)) _
+    (λ step last bytes steps stands. last_again c.args.self.now step bytes steps (subst (λ (e : Option Ended). IsLast e step) (c.next_of_head.ensures.ended none) last) stands)
+    c.next_of_body.ensures.last

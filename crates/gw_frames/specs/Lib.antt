@@ -1,0 +1,4 @@
+pub mod Inlets
+pub mod Judgments
+pub mod Targets
+pub mod model

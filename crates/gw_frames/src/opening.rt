@@ -1,0 +1,38 @@
+ghost use Rattle.std.specs.Prelude.{◌≡◌};
+
+use crate::request::Request;
+use gw_text::Text;
+use std::marker::Model;
+
+/// A request whose body hasn't been read.
+#[derive(Drop)]
+pub struct Opening {
+    /// The request with an empty body.
+    pub request: Request,
+    /// How many bytes the body has; none where it is chunked.
+    pub size: Option<usize>,
+    /// Whether the request waits for the answer 100.
+    pub expects: bool,
+}
+
+impl Model for Opening {
+    ghost use Rattle.gw_frames.specs.model.Requests.{Opening as Plain};
+
+    ghost Value = { Plain };
+
+    ghost view = { λ o. record { request = o.request; size = o.size; expects = o.expects } };
+}
+
+impl Opening {
+    ghost use Rattle.gw_frames.specs.model.Requests.{whole_request};
+
+    /// The request with its body.
+    pub fn whole(self, body: Vec<u8>) -> Request
+        ensures { result ≡ whole_request self body.items }
+    {
+        let Opening { request, .. } = self;
+        let mut request = request;
+        request.body = Text::from_vec(body);
+        request
+    }
+}

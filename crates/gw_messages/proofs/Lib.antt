@@ -1,0 +1,9 @@
+pub mod ChunkData
+pub mod ChunkLines
+pub mod CodingLists
+pub mod Cutting
+pub mod FieldSpans
+pub mod LineEnds
+pub mod Numbers
+pub mod Readings
+pub mod Sections

@@ -1,0 +1,10 @@
+use Rattle.std.proofs.Common.{length}
+use Rattle.gw_messages.specs.Readings.{Leads}
+use Rattle.gw_messages.specs.declared.body.Reading.TheVariants.{Chunked}
+use Rattle.gw_messages.proofs.body.Decoder.read.Given as goal
+
+abbrev pub invariant-chunks : goal.invariant-chunks
+invariant-chunks l = Leads (Chunked l.fn.self) l.fn.buffer (Chunked l.self) l.buffer
+
+abbrev pub decreases-chunks : goal.decreases-chunks
+decreases-chunks l = length l.buffer

@@ -1,0 +1,10 @@
+use Rattle.std.proofs.Common.{◌-◌}
+use Rattle.gw_messages.specs.model.Sections.{ends_trailers}
+use Rattle.gw_messages.specs.Searches.{IsSearch}
+use Rattle.gw_messages.proofs.section.Search.find_trailers.Given as goal
+
+abbrev pub invariant-lines : goal.invariant-lines
+invariant-lines l = IsSearch ends_trailers l.self l.bytes
+
+abbrev pub decreases-lines : goal.decreases-lines
+decreases-lines l = l.stop - l.self.seen

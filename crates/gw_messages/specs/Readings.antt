@@ -1,0 +1,51 @@
+-- How far a body has come, and what it comes to with the bytes behind.
+use Rattle.std.specs.Prelude.{ℕ, ◌+◌, ◌-◌, ◌<◌, ◌≤◌, ◌≡◌, List, ◌++◌, length, take, drop, Bool, true, false, ◌&&◌, ◌==◌, nat_lt, if◌then◌else◌}
+use Rattle.gw_messages.specs.model.Bodies.{Body, whole_body, bad_body, part_body, behind, limited_body, Chunks, after_trailers}
+use Rattle.gw_messages.specs.model.Sections.{Section, IsCut, ends_trailers}
+use Rattle.gw_messages.specs.declared.fault.BodyFault.TheVariants.{TooBig as IsTooBig}
+use Rattle.gw_messages.specs.declared.body.Decoder.{Decoder}
+use Rattle.gw_messages.specs.declared.body.Reading.{Reading}
+use Rattle.gw_messages.specs.declared.body.Reading.TheVariants.{Sized, Chunked}
+use Rattle.gw_messages.specs.declared.body.Progress.{Progress}
+use Rattle.gw_messages.specs.declared.body.Progress.TheVariants as progresses
+
+-- What was decoded of bytes behind so many others of the same body, of which there may be so many.
+abbrev pub within_after : ℕ → ℕ → List ℕ → Body → Body
+within_after most taken bytes (whole_body content rest) =
+    if length rest == 0 && nat_lt most (taken + length bytes) then bad_body IsTooBig
+    else whole_body content (rest ++ drop (most + 1 - taken) bytes)
+within_after most taken bytes (bad_body fault) = bad_body fault
+within_after most taken bytes part_body = if nat_lt most (taken + length bytes) then bad_body IsTooBig else part_body
+
+-- What bytes are from a chunk on, or behind the last chunk.
+abbrev pub IsRest : Bool → ℕ → List ℕ → Body → Type 0
+IsRest false room bytes body = Chunks room bytes body
+IsRest true room bytes body = (section : Section) × IsCut ends_trailers 16384 bytes section × (body ≡ after_trailers section)
+
+-- What a decoder makes of the bytes behind those that it took.
+abbrev pub Decodes : Decoder → List ℕ → Body → Type 0
+Decodes d bytes body =
+    (decoded : Body) × IsRest d.trailing (d.limits.content - length d.content.items) (take (d.limits.encoded + 1 - d.taken) bytes) decoded
+    × (body ≡ within_after d.limits.encoded d.taken bytes (behind d.content.items decoded))
+
+-- What a body comes to with the bytes behind those that were taken.
+abbrev pub Comes : Reading → List ℕ → Body → Type 0
+Comes (Sized room size) bytes body = body ≡ limited_body room size bytes
+Comes (Chunked d) bytes body = Decodes d bytes body
+
+-- Whatever the bytes behind it, what comes now would have come before.
+abbrev pub Leads : Reading → List ℕ → Reading → List ℕ → Type 0
+Leads old before new after = (next : List ℕ) (body : Body) → Comes new (after ++ next) body → Comes old (before ++ next) body
+
+-- What a body comes to, whatever the bytes behind it; or nothing yet.
+abbrev pub IsProgress : Reading → List ℕ → Reading → List ℕ → Progress → Type 0
+IsProgress old before new after (progresses.Whole content) =
+    (next : List ℕ) → Comes old (before ++ next) (whole_body content.items (after ++ next))
+IsProgress old before new after (progresses.Bad fault) = (next : List ℕ) → Comes old (before ++ next) (bad_body fault)
+IsProgress old before new after progresses.Part = Leads old before new after × Comes new after part_body
+
+-- The whole content, unless so many bytes are too many.
+abbrev pub IsFinished : ℕ → List ℕ → ℕ → Progress → Type 0
+IsFinished most content taken (progresses.Whole whole) = (taken ≤ most) × (whole.items ≡ content)
+IsFinished most content taken (progresses.Bad fault) = (most < taken) × (fault ≡ IsTooBig)
+IsFinished most content taken progresses.Part = ⊥

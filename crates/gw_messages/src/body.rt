@@ -1,0 +1,225 @@
+ghost use Rattle.std.specs.Prelude.{◌≡◌, ◌+◌, ◌-◌, ◌^◌, ◌<◌, ◌≤◌, true, false, length, take, drop, List, ℕ, IfOk, IfSome, OnErr, Ok, None};
+ghost use Rattle.gw_messages.specs.model.Bodies.{Body, IsBody, part_body};
+
+use crate::buffer::Buffer;
+use crate::bytes::first;
+use crate::chunk::{Data, Line, read_data, read_line};
+use crate::fault::BodyFault;
+use crate::section::Found;
+use gw_text::NoMemory;
+use std::alloc::Global;
+use std::mem;
+
+/// The most bytes of a trailer section.
+const MOST_TRAILERS: usize = 16384;
+
+/// How many bytes a body may have.
+#[derive(Clone, Copy)]
+pub struct Limits {
+    /// When it is decoded.
+    pub content: usize,
+    /// As it is sent, where it is chunked.
+    pub encoded: usize,
+    ghost small: { (content < 2 ^ 32) × (encoded < 2 ^ 32) },
+}
+
+/// How far a body has come.
+#[derive(Drop)]
+pub enum Reading {
+    /// One that may have so many bytes, and has so many, which stay in the buffer until it is whole.
+    Sized(usize, usize),
+    Chunked(Decoder),
+}
+
+/// How far a chunked body has come.
+#[derive(Drop)]
+pub struct Decoder {
+    alloc: Global,
+    limits: Limits,
+    content: Vec<u8>,
+    /// How many bytes were taken from the buffer.
+    taken: usize,
+    /// Whether the last chunk was taken.
+    trailing: bool,
+    ghost room: { length content.items ≤ limits.content },
+    ghost few: { taken ≤ limits.encoded + 1 },
+}
+
+/// What comes of a body.
+#[derive(Drop)]
+pub enum Progress {
+    Whole(Vec<u8>),
+    Bad(BodyFault),
+    Part,
+}
+
+impl Reading {
+    ghost use Rattle.gw_messages.specs.Readings.{Comes, IsProgress, Leads};
+
+    /// Nothing came of a body of so many bytes, or of a chunked one.
+    pub fn new(alloc: Global, limits: Limits, size: Option<usize>) -> Self
+        ensures { (bytes : List ℕ) (body : Body) → Comes result bytes body → IsBody limits.content limits.encoded size bytes body }
+    {
+        match size {
+            Some(size) => Reading::Sized(limits.content, size),
+            None => Reading::Chunked(Decoder {
+                alloc,
+                limits,
+                content: Vec::new(alloc),
+                taken: 0,
+                trailing: false,
+            }),
+        }
+    }
+
+    /// Goes on to read the body.
+    pub fn read(&mut self, alloc: Global, buffer: &mut Buffer) -> Result<Progress, NoMemory>
+        ensures progress { IfOk result (IsProgress self.old buffer.old self.new buffer.new) }
+        ensures err { OnErr result (Leads self.old buffer.old self.new buffer.new) }
+    {
+        match self {
+            Reading::Sized(room, size) => buffer.read_sized(alloc, *room, *size),
+            Reading::Chunked(decoder) => decoder.read(buffer),
+        }
+    }
+}
+
+impl Buffer {
+    ghost use Rattle.gw_messages.specs.Readings.{IsProgress};
+    ghost use Rattle.gw_messages.specs.declared.body.Reading.TheVariants.{Sized as IsSized};
+
+    // Takes a body of so many bytes, where it may have so many.
+    fn read_sized(&mut self, alloc: Global, room: usize, size: usize) -> Result<Progress, NoMemory>
+        ensures progress { IfOk result (IsProgress (IsSized room size) self.old (IsSized room size) self.new) }
+        ensures err { OnErr result (self.new ≡ self.old) }
+    {
+        let count = self.bytes().len();
+        if size.min(count) > room {
+            return Ok(Progress::Bad(BodyFault::TooBig));
+        }
+        if count < size {
+            return Ok(Progress::Part);
+        }
+        let body = Vec::from_slice(alloc, self.front(size))?;
+        self.advance(size);
+        Ok(Progress::Whole(body))
+    }
+}
+
+impl Decoder {
+    ghost use Rattle.gw_messages.specs.Readings.{IsFinished, IsProgress, IsRest, Leads};
+    ghost use Rattle.gw_messages.specs.declared.body.Reading.TheVariants.{Chunked as IsChunked};
+    ghost use Rattle.gw_messages.specs.model.Bodies.{IsLine, whole_line};
+
+    // Takes chunk after chunk.
+    fn read(&mut self, buffer: &mut Buffer) -> Result<Progress, NoMemory>
+        ensures progress { IfOk result (IsProgress (IsChunked self.old) buffer.old (IsChunked self.new) buffer.new) }
+        ensures err { OnErr result (Leads (IsChunked self.old) buffer.old (IsChunked self.new) buffer.new) }
+    {
+        'chunks: while !self.trailing {
+            if let Some(progress) = self.take_chunk(buffer)? {
+                return Ok(progress);
+            }
+        }
+        Ok(self.take_trailers(buffer))
+    }
+
+    // Takes a chunk, or says what comes of the body.
+    fn take_chunk(&mut self, buffer: &mut Buffer) -> Result<Option<Progress>, NoMemory>
+        requires { self.old.trailing ≡ false }
+        ensures stopped { IfOk result (λ stop. IfSome stop (IsProgress (IsChunked self.old) buffer.old (IsChunked self.new) buffer.new)) }
+        ensures taken { result ≡ Ok None → Leads (IsChunked self.old) buffer.old (IsChunked self.new) buffer.new }
+        ensures smaller { result ≡ Ok None → length buffer.new < length buffer.old }
+        ensures err { OnErr result (Leads (IsChunked self.old) buffer.old (IsChunked self.new) buffer.new) }
+    {
+        let seen = first(buffer.bytes(), self.limits.encoded + 1 - self.taken);
+        match read_line(seen) {
+            Line::Bad => Ok(Some(Progress::Bad(BodyFault::Malformed))),
+            Line::Part => Ok(Some(self.part(buffer))),
+            Line::Whole(0, length) => {
+                self.taken += length;
+                self.trailing = true;
+                buffer.advance(length);
+                Ok(None)
+            }
+            Line::Whole(size, length) => self.take_data(buffer, size, length),
+        }
+    }
+
+    // Takes a chunk whose line has so many bytes, or says what comes of the body.
+    fn take_data(
+        &mut self,
+        buffer: &mut Buffer,
+        size: u64,
+        line: usize,
+    ) -> Result<Option<Progress>, NoMemory>
+        requires trailing { self.old.trailing ≡ false }
+        requires size { 0 < size }
+        requires within { (0 < line) × (line ≤ length (take (self.old.limits.encoded + 1 - self.old.taken) buffer.old)) }
+        requires line_is { IsLine (take (self.old.limits.encoded + 1 - self.old.taken) buffer.old) (whole_line size (drop line (take (self.old.limits.encoded + 1 - self.old.taken) buffer.old))) }
+        ensures stopped { IfOk result (λ stop. IfSome stop (IsProgress (IsChunked self.old) buffer.old (IsChunked self.new) buffer.new)) }
+        ensures taken { result ≡ Ok None → Leads (IsChunked self.old) buffer.old (IsChunked self.new) buffer.new }
+        ensures smaller { result ≡ Ok None → length buffer.new < length buffer.old }
+        ensures err { OnErr result (Leads (IsChunked self.old) buffer.old (IsChunked self.new) buffer.new) }
+    {
+        let room = self.limits.content - self.content.len();
+        let seen = first(buffer.bytes(), self.limits.encoded + 1 - self.taken);
+        match read_data(room, size, &seen[line..]) {
+            Data::TooBig => return Ok(Some(Progress::Bad(BodyFault::TooBig))),
+            Data::Malformed => return Ok(Some(Progress::Bad(BodyFault::Malformed))),
+            Data::Part => return Ok(Some(self.part(buffer))),
+            Data::Whole => {}
+        }
+        let end = line + size as usize;
+        self.content.extend_from_slice(&seen[line..end])?;
+        self.taken += end + 2;
+        buffer.advance(end + 2);
+        Ok(None)
+    }
+
+    // Takes the trailer section, or says what comes of the body.
+    fn take_trailers(&mut self, buffer: &mut Buffer) -> Progress
+        requires { self.old.trailing ≡ true }
+        ensures { IsProgress (IsChunked self.old) buffer.old (IsChunked self.new) buffer.new result }
+    {
+        let most = self.limits.encoded + 1 - self.taken;
+        match buffer.find_trailers() {
+            Found::Whole(length) => {
+                if length > most {
+                    return self.part(buffer);
+                }
+                self.taken += length;
+                buffer.advance(length);
+                self.finished()
+            }
+            Found::Long => {
+                if most > MOST_TRAILERS {
+                    return Progress::Bad(BodyFault::LongTrailers);
+                }
+                self.part(buffer)
+            }
+            Found::Part => self.part(buffer),
+        }
+    }
+
+    // The whole content, unless the body has too many bytes as it was sent.
+    fn finished(&mut self) -> Progress
+        ensures { IsFinished self.old.limits.encoded self.old.content.items self.old.taken result }
+    {
+        if self.taken > self.limits.encoded {
+            return Progress::Bad(BodyFault::TooBig);
+        }
+        Progress::Whole(mem::replace(&mut self.content, Vec::new(self.alloc)))
+    }
+
+    // Where the body isn't whole: that may be since it has too many bytes.
+    fn part(&self, buffer: &Buffer) -> Progress
+        requires { IsRest self.now.trailing (self.now.limits.content - length self.now.content.items) (take (self.now.limits.encoded + 1 - self.now.taken) buffer.now) part_body }
+        ensures { IsProgress (IsChunked self.now) buffer.now (IsChunked self.now) buffer.now result }
+    {
+        if self.taken + buffer.bytes().len() > self.limits.encoded {
+            return Progress::Bad(BodyFault::TooBig);
+        }
+        Progress::Part
+    }
+}

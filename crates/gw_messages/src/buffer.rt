@@ -1,0 +1,138 @@
+ghost use Rattle.std.specs.Prelude.{◌≡◌, ℕ, [], ◌++◌, ◌≤◌, length, drop, take, OnOk, OnErr};
+ghost use Rattle.gw_messages.specs.model.Sections.{ends_head, ends_trailers};
+ghost use Rattle.gw_messages.specs.Searches.{IsFound};
+
+use crate::bytes::first;
+use crate::section::{Found, Search};
+use std::alloc::{AllocError, Global};
+use std::marker::Model;
+
+/// A buffer that was emptied keeps no more memory than this, which is that of one head.
+const MOST_KEPT: usize = 16384;
+
+/// Bytes that came and weren't taken yet. It knows how far the ends of sections were looked for.
+#[derive(Drop)]
+pub struct Buffer {
+    alloc: Global,
+    bytes: Vec<u8>,
+    start: usize,
+    heads: Search,
+    trailers: Search,
+}
+
+impl Model for Buffer {
+    ghost use Rattle.std.specs.Prelude.{List, ℕ, drop};
+    ghost use Rattle.gw_messages.specs.Searches.{IsBuffer};
+
+    ghost Value = { List ℕ };
+
+    ghost view = { λ b. drop b.start b.bytes.items };
+
+    ghost invariant = { λ b. IsBuffer b.start b.bytes.items b.heads b.trailers };
+}
+
+impl Buffer {
+    /// No bytes.
+    pub fn new(alloc: Global) -> Self
+        ensures { result ≡ [] }
+    {
+        Buffer {
+            alloc,
+            bytes: Vec::new(alloc),
+            start: 0,
+            heads: Search::new(),
+            trailers: Search::new(),
+        }
+    }
+
+    /// The bytes, without a copy.
+    pub fn bytes(&self) -> &[u8]
+        ensures { result.now ≡ self.now }
+    {
+        self.bytes.as_slice().split_at(self.start).1
+    }
+
+    /// At most so many bytes from the front.
+    pub fn front(&self, count: usize) -> &[u8]
+        ensures { result.now ≡ take count self.now }
+    {
+        first(self.bytes(), count)
+    }
+
+    /// Puts a piece at the end, or leaves all as it was.
+    pub fn feed(&mut self, piece: &[u8]) -> Result<(), AllocError>
+        ensures ok { OnOk result (self.new ≡ self.old ++ piece.now) }
+        ensures err { OnErr result (self.new ≡ self.old) }
+    {
+        self.compact()?;
+        self.bytes.extend_from_slice(piece)
+    }
+
+    // Frees what was taken, where that is more than is left.
+    fn compact(&mut self) -> Result<(), AllocError>
+        ensures { self.new ≡ self.old }
+    {
+        if self.start > self.bytes.len() / 2 {
+            let rest = Vec::from_slice(self.alloc, self.bytes.as_slice().split_at(self.start).1)?;
+            self.bytes = rest;
+            self.start = 0;
+        }
+        Ok(())
+    }
+
+    /// Takes so many bytes from the front.
+    pub fn advance(&mut self, count: usize)
+        requires { count ≤ length self.old }
+        ensures { self.new ≡ drop count self.old }
+    {
+        self.heads = Search::new();
+        self.trailers = Search::new();
+        self.start += count;
+        if self.start == self.bytes.len() {
+            self.clear();
+        } else {
+            self.shrink();
+        }
+    }
+
+    // Frees what was taken, where that is much. Where there is no memory for the rest, all stays.
+    fn shrink(&mut self)
+        ensures { self.new ≡ self.old }
+    {
+        if self.bytes.capacity() > MOST_KEPT {
+            let _ = self.compact();
+        }
+    }
+
+    // Without bytes, and without much memory.
+    fn clear(&mut self)
+        ensures { self.new ≡ [] }
+    {
+        if self.bytes.capacity() > MOST_KEPT {
+            self.bytes = Vec::new(self.alloc);
+        } else {
+            self.bytes.clear();
+        }
+        self.start = 0;
+        self.heads = Search::new();
+        self.trailers = Search::new();
+    }
+
+    /// Where the head ends at whose beginning the bytes begin.
+    pub fn find_head(&mut self) -> Found
+        ensures found { IsFound ends_head self.old result }
+        ensures same { self.new ≡ self.old }
+    {
+        let bytes = self.bytes.as_slice().split_at(self.start).1;
+        self.heads.find_head(bytes)
+    }
+
+    /// Where the trailer section ends at whose beginning the bytes begin.
+    pub fn find_trailers(&mut self) -> Found
+        ensures found { IsFound ends_trailers self.old result }
+        ensures same { self.new ≡ self.old }
+    {
+        let bytes = self.bytes.as_slice().split_at(self.start).1;
+        self.trailers.find_trailers(bytes)
+    }
+}

@@ -1,0 +1,5 @@
+pub mod HeadBytes
+pub mod Hops
+pub mod Lengths
+pub mod Messages
+pub mod Replies

@@ -1,0 +1,4 @@
+pub mod Extents
+pub mod Kinds
+pub mod Replies
+pub mod model

@@ -1,0 +1,71 @@
+ghost use Rattle.std.specs.Prelude.{◌≡◌, [], IfOk};
+ghost use Rattle.gw_replies.specs.model.Responses.{IsHead, response_of};
+
+use crate::length::announced_length;
+use crate::response::Response;
+use gw_messages::spans::copy_fields;
+use gw_text::{Fields, NoMemory, Text};
+use httparse::Status;
+use httparse::spans::{EMPTY_HEADER_SPAN, parse_response};
+use std::alloc::Global;
+use std::marker::Model;
+
+/// A response's head.
+#[derive(Drop)]
+pub struct Head {
+    pub code: u16,
+    pub phrase: Text,
+    pub fields: Fields,
+}
+
+impl Model for Head {
+    ghost use Rattle.gw_replies.specs.model.Responses.{Head as Plain};
+
+    ghost Value = { Plain };
+
+    ghost view = { λ h. record { code = h.code; phrase = h.phrase; fields = h.fields } };
+}
+
+/// The head that the bytes are, all of them.
+pub fn read_head(alloc: Global, bytes: &[u8]) -> Result<Option<Head>, NoMemory>
+    ensures { IfOk result (IsHead bytes.now) }
+{
+    // A field takes at least three bytes.
+    let mut spans = Vec::from_elem(alloc, EMPTY_HEADER_SPAN, bytes.len() / 3)?;
+    let head = match parse_response(bytes, spans.as_mut_slice()) {
+        Ok(Status::Complete(head)) => head,
+        Ok(Status::Partial) => return Ok(None),
+        Err(_) => return Ok(None),
+    };
+    if head.len != bytes.len() {
+        return Ok(None);
+    }
+    let phrase = Text::from_bytes(alloc, head.reason.of(bytes))?;
+    let fields = copy_fields(alloc, bytes, &spans[..head.headers])?;
+    Ok(Some(Head {
+        code: head.code,
+        phrase,
+        fields,
+    }))
+}
+
+impl Head {
+    /// The response with an empty body.
+    pub fn opened(self, alloc: Global) -> Response
+        ensures { result ≡ response_of self [] }
+    {
+        let length = announced_length(self.fields.as_slice());
+        let Head {
+            code,
+            phrase,
+            fields,
+        } = self;
+        Response {
+            code,
+            phrase,
+            fields,
+            body: Text::from_vec(Vec::new(alloc)),
+            length,
+        }
+    }
+}

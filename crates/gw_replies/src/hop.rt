@@ -1,0 +1,79 @@
+ghost use Rattle.std.specs.Prelude.{◌≡◌, ◌++◌, ℕ, List, map, IfOk};
+ghost use Rattle.std.specs.List.{list_any};
+ghost use Rattle.gw_text.specs.model.Fields.{same_field_name};
+ghost use Rattle.gw_replies.specs.model.Hops.{connection_options, passed_back, passed_on, without};
+
+use gw_messages::field::has_element;
+use gw_text::{Field, Fields, NoMemory, Text};
+use std::alloc::Global;
+
+/// The names of a response's fields that concern the connection alone.
+const RESPONSE_HOPS: &[&str] = &[
+    "connection",
+    "keep-alive",
+    "proxy-connection",
+    "trailer",
+    "transfer-encoding",
+    "upgrade",
+    "content-length",
+];
+
+/// The names of a request's fields that concern the connection alone, or are written anew.
+const REQUEST_HOPS: &[&str] = &[
+    "host",
+    "te",
+    "expect",
+    "connection",
+    "keep-alive",
+    "proxy-connection",
+    "trailer",
+    "transfer-encoding",
+    "upgrade",
+    "content-length",
+];
+
+/// The fields of a request that are passed on to a backend.
+#[tactic(auto, using(crate::proofs::Hops::request_hops_are), unfolding(crate::specs::model::Hops::passed_on))]
+pub fn passed_on(alloc: Global, fields: &Fields) -> Result<Fields, NoMemory>
+    ensures { IfOk result (λ kept. kept ≡ passed_on fields.now) }
+{
+    without(alloc, REQUEST_HOPS, fields.as_slice())
+}
+
+/// The fields of a response that are passed back to a client.
+#[tactic(auto, using(crate::proofs::Hops::response_hops_are), unfolding(crate::specs::model::Hops::passed_back))]
+pub fn passed_back(alloc: Global, fields: &Fields) -> Result<Fields, NoMemory>
+    ensures { IfOk result (λ kept. kept ≡ passed_back fields.now) }
+{
+    without(alloc, RESPONSE_HOPS, fields.as_slice())
+}
+
+// The fields without those of these names and those that Connection names.
+fn without(alloc: Global, names: &[&str], fields: &[Field]) -> Result<Fields, NoMemory>
+    ensures { IfOk result (λ kept. kept ≡ without (map (λ n. n.now) names.now) fields.now) }
+{
+    let mut kept = Vec::new(alloc);
+    'fields: for field in fields {
+        if !is_hop(field.name.bytes(), names, fields) {
+            kept.push(field.copy(alloc)?)?;
+        }
+    }
+    Ok(Fields::from_vec(kept))
+}
+
+fn is_hop(name: &[u8], names: &[&str], fields: &[Field]) -> bool
+    ensures { result ≡ list_any (same_field_name name.now) (map (λ n. n.now) names.now ++ connection_options fields.now) }
+{
+    if is_among(name, names) {
+        return true;
+    }
+    has_element(fields, b"connection", name)
+}
+
+fn is_among(name: &[u8], names: &[&str]) -> bool
+    ensures { result ≡ list_any (λ other. same_field_name name.now other.now) names.now }
+{
+    names
+        .iter()
+        .any(|other| name.eq_ignore_ascii_case(other.as_bytes()))
+}

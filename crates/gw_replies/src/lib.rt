@@ -1,0 +1,20 @@
+// Responses out of the bytes of a backend, and the bytes of messages.
+#![tactic(auto)]
+
+mod extent;
+mod fault;
+mod head;
+mod hop;
+mod kind;
+mod length;
+mod reader;
+mod response;
+mod step;
+mod write;
+
+pub use fault::{BackendFault, FaultName};
+pub use hop::{passed_back, passed_on};
+pub use reader::ReplyReader;
+pub use response::Response;
+pub use step::ReplyStep;
+pub use write::{write_forward, write_own, write_reply};
