@@ -11,7 +11,6 @@ use gw_text::{Field, Fields, NoMemory, Text};
 use std::alloc::Global;
 
 /// The bytes of a request as it is sent to a backend, whose fields were edited. It came in HTTP/1.0 where `minor` is 0.
-
 pub fn write_forward(
     alloc: Global,
     method: &Text,
@@ -51,7 +50,6 @@ pub fn write_reply(alloc: Global, r: &Response, head: bool, close: bool) -> Resu
 }
 
 /// The bytes of a reply of this program's own, which has no body.
-
 pub fn write_own(
     alloc: Global,
     code: u16,
