@@ -7,7 +7,7 @@ use Rattle.gw_text.specs.declared.types.PathMatchType.{PathMatchType}
 use Rattle.gw_text.specs.declared.types.PathMatchType.TheVariants as path_types
 use Rattle.gw_text.specs.model.Paths.{BeginsWithPrefix, is_path_prefix}
 use Rattle.gw_path.proofs.Elements.{prefix-bytes}
-use Rattle.gw_filters.specs.model.Locations.{fits_by}
+use Rattle.gw_text.specs.model.Matches.{fits_by}
 
 -- A path begins with itself as a prefix: what is left is its slash, or nothing.
 begins_with_itself : (path : List ℕ) → BeginsWithPrefix path path

@@ -1,6 +1,7 @@
 ghost use Rattle.std.specs.Prelude.{◌≡◌, ◌∷◌, ◌++◌, IfOk, OnOk, IsTrue, option_map};
 ghost use Rattle.gw_route.specs.SeenModifier.{seen_modifier};
-ghost use Rattle.gw_filters.specs.model.Locations.{full_path, modified, path_fits, query_text};
+ghost use Rattle.gw_text.specs.model.Matches.{path_fits};
+ghost use Rattle.gw_filters.specs.model.Locations.{full_path, modified, query_text};
 
 use gw_path::replace_prefix;
 use gw_route::{PathMatch, PathModifier};

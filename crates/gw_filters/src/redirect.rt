@@ -1,5 +1,6 @@
 ghost use Rattle.std.specs.Prelude.{◌≡◌, ◌++◌, IfOk, OnOk, IsTrue, codes, decimal, unwrap_or};
-ghost use Rattle.gw_filters.specs.model.Locations.{location_of, path_fits, port_of, port_text, scheme_of, scheme_port};
+ghost use Rattle.gw_text.specs.model.Matches.{path_fits};
+ghost use Rattle.gw_filters.specs.model.Locations.{location_of, port_of, port_text, scheme_of, scheme_port};
 
 use crate::path::{modified, push_query};
 use gw_frames::Request;

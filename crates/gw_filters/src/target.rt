@@ -1,5 +1,6 @@
 ghost use Rattle.std.specs.Prelude.{◌≡◌, IfOk, IsTrue};
-ghost use Rattle.gw_filters.specs.model.Locations.{host_of, path_fits, target_of};
+ghost use Rattle.gw_text.specs.model.Matches.{path_fits};
+ghost use Rattle.gw_filters.specs.model.Locations.{host_of, target_of};
 
 use crate::path::{modified, push_query};
 use gw_frames::Request;

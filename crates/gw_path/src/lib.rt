@@ -2,9 +2,10 @@
 #![tactic(auto)]
 
 ghost use Rattle.std.specs.Prelude.{◌≡◌, ◌↔◌, IfOk, IsTrue};
+ghost use Rattle.gw_text.specs.model.Matches.{fits_by};
 ghost use Rattle.gw_text.specs.model.Paths.{BeginsWithPrefix, EndsElement, is_path_prefix, path_or_root, rooted, with_prefix_replaced, without_slash};
 
-use gw_text::{NoMemory, Text};
+use gw_text::{NoMemory, PathMatchType, Text};
 use std::alloc::Global;
 
 /// Whether a match of type Exact fits. Case counts.
@@ -22,6 +23,17 @@ pub fn prefix_fits(value: &[u8], path: &[u8]) -> bool
     match path.strip_prefix(trimmed(value)) {
         Some(rest) => ends_element(rest),
         None => false,
+    }
+}
+
+/// Whether a match of this type fits. One of a type that isn't read further fits no path.
+pub fn fits_by(sort: &PathMatchType, value: &[u8], path: &[u8]) -> bool
+    ensures { result ≡ fits_by sort.now value.now path.now }
+{
+    match sort {
+        PathMatchType::Exact => exact_fits(value, path),
+        PathMatchType::PathPrefix => prefix_fits(value, path),
+        PathMatchType::Other(_) => false,
     }
 }
 

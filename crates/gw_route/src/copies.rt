@@ -1,9 +1,12 @@
-//! Filters once more, for what outlives the Route from which they were read.
+//! Filters and matches once more, for what outlives the Route from which they were read.
 ghost use Rattle.std.specs.Prelude.{◌≡◌, IfOk, map, option_map};
 ghost use Rattle.gw_route.specs.SeenFilter.{seen_filter};
 ghost use Rattle.gw_route.specs.SeenModifier.{seen_modifier};
 
-use crate::plain::{Edits, Filter, Filters, PathModifier, Redirect, Rewrite};
+use crate::plain::{
+    Edits, Filter, Filters, HeaderMatch, Match, PathMatch, PathModifier, QueryParamMatch, Redirect,
+    Rewrite,
+};
 use gw_text::{Fields, Names, NoMemory, Text};
 use std::alloc::Global;
 
@@ -115,4 +118,65 @@ pub fn copy_filters(alloc: Global, filters: &[Filter]) -> Result<Filters, NoMemo
         copy.push(copy_filter(alloc, filter)?)?;
     }
     Ok(copy)
+}
+
+fn copy_path_match(alloc: Global, path: &PathMatch) -> Result<PathMatch, NoMemory>
+    ensures { IfOk result (λ copy. copy ≡ path.now) }
+{
+    Ok(PathMatch {
+        sort: path.sort.copy(alloc)?,
+        value: path.value.copy(alloc)?,
+    })
+}
+
+fn copy_header(alloc: Global, header: &HeaderMatch) -> Result<HeaderMatch, NoMemory>
+    ensures { IfOk result (λ copy. copy ≡ header.now) }
+{
+    Ok(HeaderMatch {
+        sort: header.sort.copy(alloc)?,
+        name: header.name.copy(alloc)?,
+        value: header.value.copy(alloc)?,
+    })
+}
+
+fn copy_headers(alloc: Global, headers: &[HeaderMatch]) -> Result<Vec<HeaderMatch>, NoMemory>
+    ensures { IfOk result (λ copy. copy.items ≡ headers.now) }
+{
+    let mut copy = Vec::new(alloc);
+    'headers: for header in headers {
+        copy.push(copy_header(alloc, header)?)?;
+    }
+    Ok(copy)
+}
+
+fn copy_param(alloc: Global, param: &QueryParamMatch) -> Result<QueryParamMatch, NoMemory>
+    ensures { IfOk result (λ copy. copy ≡ param.now) }
+{
+    Ok(QueryParamMatch {
+        sort: param.sort.copy(alloc)?,
+        name: param.name.copy(alloc)?,
+        value: param.value.copy(alloc)?,
+    })
+}
+
+fn copy_params(alloc: Global, params: &[QueryParamMatch]) -> Result<Vec<QueryParamMatch>, NoMemory>
+    ensures { IfOk result (λ copy. copy.items ≡ params.now) }
+{
+    let mut copy = Vec::new(alloc);
+    'params: for param in params {
+        copy.push(copy_param(alloc, param)?)?;
+    }
+    Ok(copy)
+}
+
+/// The same match once more.
+pub fn copy_match(alloc: Global, test: &Match) -> Result<Match, NoMemory>
+    ensures { IfOk result (λ copy. copy ≡ test.now) }
+{
+    Ok(Match {
+        path: copy_path_match(alloc, &test.path)?,
+        headers: copy_headers(alloc, &test.headers)?,
+        query_params: copy_params(alloc, &test.query_params)?,
+        method: copy_text(alloc, &test.method)?,
+    })
 }

@@ -14,7 +14,7 @@ mod route;
 mod state;
 mod support;
 
-pub use copies::copy_filters;
+pub use copies::{copy_filters, copy_match};
 pub use plain::{
     BackendRef, Edits, Filter, Filters, HeaderMatch, HttpRoute, Match, ParentRef, PathMatch,
     PathModifier, QueryParamMatch, Redirect, Rewrite, Rule,

@@ -91,6 +91,17 @@ impl PathMatchType {
             _ => Ok(PathMatchType::Other(Text::of(alloc, name)?)),
         }
     }
+
+    /// The same type once more.
+    pub fn copy(&self, alloc: Global) -> Result<Self, AllocError>
+        ensures { IfOk result (λ copy. copy ≡ self.now) }
+    {
+        match self {
+            PathMatchType::Exact => Ok(PathMatchType::Exact),
+            PathMatchType::PathPrefix => Ok(PathMatchType::PathPrefix),
+            PathMatchType::Other(name) => Ok(PathMatchType::Other(name.copy(alloc)?)),
+        }
+    }
 }
 
 /// The type of a match of a field or of a query parameter.
@@ -109,6 +120,16 @@ impl ValueMatchType {
         match name {
             "Exact" => Ok(ValueMatchType::Exact),
             _ => Ok(ValueMatchType::Other(Text::of(alloc, name)?)),
+        }
+    }
+
+    /// The same type once more.
+    pub fn copy(&self, alloc: Global) -> Result<Self, AllocError>
+        ensures { IfOk result (λ copy. copy ≡ self.now) }
+    {
+        match self {
+            ValueMatchType::Exact => Ok(ValueMatchType::Exact),
+            ValueMatchType::Other(name) => Ok(ValueMatchType::Other(name.copy(alloc)?)),
         }
     }
 }

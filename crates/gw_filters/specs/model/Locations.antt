@@ -1,22 +1,10 @@
 -- Where a redirect sends a client, and what a rewrite makes of a request's target and host. Source: HTTPRequestRedirectFilter,
 -- HTTPURLRewriteFilter and HTTPPathModifier of the Gateway API reference.
-use Rattle.std.specs.Prelude.{ℕ, List, [], ◌∷◌, ◌++◌, codes, decimal, Bool, false, ◌==◌, bytes_eq, if◌then◌else◌, Option, Some, None, unwrap_or}
-use Rattle.gw_text.specs.declared.types.PathMatchType.{PathMatchType}
-use Rattle.gw_text.specs.declared.types.PathMatchType.TheVariants as path_types
+use Rattle.std.specs.Prelude.{ℕ, List, [], ◌∷◌, ◌++◌, codes, decimal, ◌==◌, bytes_eq, if◌then◌else◌, Option, Some, None, unwrap_or}
 use Rattle.gw_text.specs.model.Filters.{PathModifier, replace_full_path, replace_prefix_match, another_modifier, Redirect, Rewrite}
 use Rattle.gw_text.specs.model.Matches.{PathMatch}
-use Rattle.gw_text.specs.model.Paths.{SLASH, is_path_prefix, with_prefix_replaced}
+use Rattle.gw_text.specs.model.Paths.{SLASH, with_prefix_replaced}
 use Rattle.gw_frames.specs.model.Requests.{Request}
-
--- A match of this type and value fits the path. Source: HTTPPathMatch.
-abbrev pub fits_by : PathMatchType → List ℕ → List ℕ → Bool
-fits_by path_types.Exact value path = bytes_eq value path
-fits_by path_types.PathPrefix value path = is_path_prefix value path
-fits_by (path_types.Other name) value path = false
-
--- The path match fits the path.
-abbrev pub path_fits : PathMatch → List ℕ → Bool
-path_fits m path = fits_by m.sort m.value path
 
 -- The value of ReplaceFullPath as a path: it begins with a slash.
 abbrev pub full_path : List ℕ → List ℕ
