@@ -1,6 +1,15 @@
-//! What the rules of Routes do with the requests that come to them.
+//! The rows of a door, which of them a request fits, and which of two stands before the other.
 #![tactic(auto)]
 
+mod counted;
+mod fitting;
+mod headers;
+mod order;
 mod plan;
+mod query;
+mod row;
 
+pub use fitting::{Test, failed_test, fits};
+pub use order::{better, is_total_order, precedence};
 pub use plan::{Backend, Backends, Plan, Plans};
+pub use row::{Row, Rows, ServedListener};

@@ -1,0 +1,4 @@
+pub mod Combined
+pub mod Kept
+pub mod Parts
+pub mod model
