@@ -1,0 +1,4 @@
+pub mod Floats
+pub mod Places
+pub mod RowByRow
+pub mod Serving

@@ -1,0 +1,4 @@
+pub mod Entries
+pub mod ExplainText
+pub mod Seen
+pub mod model
