@@ -62,6 +62,24 @@ impl Connection {
         self.inlet.ended()
     }
 
+    // Takes bytes, and gives the first request that they hold.
+    fn ask(&mut self, bytes: &[u8]) -> Result<Option<Request>, NoMemory> {
+        if self.closed {
+            return Ok(None);
+        }
+        self.inlet.feed(bytes)?;
+        self.asked()
+    }
+
+    // The next step, where it is a request.
+    fn asked(&mut self) -> Result<Option<Request>, NoMemory> {
+        let step = self.inlet.next()?;
+        if is_last(&step) {
+            self.closed = true;
+        }
+        Ok(request_in(step))
+    }
+
     // Takes bytes in pieces of these sizes, and what is left in one piece.
     fn feed_pieces(&mut self, bytes: &[u8], sizes: &[usize]) -> Result<(), NoMemory> {
         let mut left = bytes;
@@ -91,6 +109,13 @@ impl Connection {
             self.closed = true;
         }
         Ok(is_followed(&step))
+    }
+}
+
+fn request_in(step: Step) -> Option<Request> {
+    match step {
+        Step::Ask(request) => Some(request),
+        _ => None,
     }
 }
 
@@ -138,4 +163,9 @@ pub fn steps(alloc: Global, bytes: &[u8], over: bool, sizes: &[usize]) -> Result
         connection.finish()?;
     }
     connection.told()
+}
+
+/// The request that bytes begin with, if they hold one whole.
+pub fn request(alloc: Global, bytes: &[u8]) -> Result<Option<Request>, NoMemory> {
+    Connection::new(alloc).ask(bytes)
 }

@@ -5,6 +5,6 @@ mod connection;
 mod reply;
 mod rows;
 
-pub use connection::{Connection, steps};
+pub use connection::{Connection, request, steps};
 pub use reply::{Reply, outcome};
 pub use rows::{column, equal_pieces, is_over, repeated, show, written};
