@@ -23,7 +23,8 @@ impl Model for Counts {
     ghost view = { λ c. map vec_items c.rows.items };
 }
 
-fn contains(places: &[usize], place: usize) -> bool
+/// Whether the place is among these.
+pub fn contains(places: &[usize], place: usize) -> bool
     ensures { result ≡ list_any (nat_eq place) places.now }
 {
     places.iter().any(|other| place == *other)

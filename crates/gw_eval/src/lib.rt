@@ -1,4 +1,4 @@
-//! The plain evaluation: statuses and results from all objects of a world.
+//! The plain evaluation: statuses, results and the rows of doors from all objects of a world.
 #![tactic(auto)]
 
 ghost use Rattle.std.specs.Prelude.{◌≡◌, ◌+◌, IfOk, OnOk, length};
@@ -6,16 +6,21 @@ ghost use Rattle.gw_text.specs.model.Statuses as statuses;
 ghost use Rattle.gw_eval.specs.Results.{gateway_status_at, route_result_at};
 
 mod attached;
+mod candidate;
 mod classes;
+mod door_rows;
 mod entries;
 mod gateways;
+mod hostnames;
 mod plans;
 mod references;
 mod result;
 mod routes;
+mod served;
 
 use attached::Counts;
 use classes::class_statuses;
+pub use door_rows::eval_rows;
 use entries::managed_position;
 use gateways::{gateway_status, gateway_statuses};
 use gw_status::{GatewayStatus, Statuses};

@@ -25,8 +25,8 @@ fn backend(
     })
 }
 
-// The rule of a Route of this namespace.
-fn plan(alloc: Global, world: &World, namespace: &Text, rule: &Rule) -> Result<Plan, NoMemory>
+/// The rule of a Route of this namespace.
+pub fn plan(alloc: Global, world: &World, namespace: &Text, rule: &Rule) -> Result<Plan, NoMemory>
     ensures { IfOk result (λ plan. plan ≡ rules.plan_of world.now.world namespace.now rule.now) }
 {
     let mut backends = Backends::new(alloc);
