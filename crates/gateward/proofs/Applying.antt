@@ -12,10 +12,8 @@ use Rattle.gw_link.specs.Moments.{Ticks, TicksInTurn}
 use Rattle.gw_store.specs.Events.{Read, a_change, is_skipped, read_of, answer}
 use Rattle.gateward.specs.Lines.{is_blank}
 use Rattle.gateward.specs.EventLines.{LineResults, Refused, is_event_line, refused_by, with_line, with_answer, results_after}
-use Rattle.gateward.specs.RunText.{refused_data, refused_text, summary_data, results_text}
+use Rattle.gateward.specs.RunText.{refused_data, refused_text, task_text, results_text}
 use Rattle.gateward.specs.Starts.{Setting}
-use Rattle.gw_status.specs.StatusText.{statuses_text}
-use Rattle.gw_text.specs.model.Statuses.{statuses_of}
 use Rattle.gateward.specs.Reports.{Tells, Applies, Takes, Refuses, world_with, skips}
 use Rattle.gateward.specs.declared.report.Report.{Report}
 
@@ -125,6 +123,6 @@ left_size-shorter (Some rest) text shorter = omega arith
 
 -- what a report tells is the text of what came of the lines
 pub text_told : (setting : Setting) (o : LineResults) (report : Report) → Tells o report →
-    string_bytes report.text ++ statuses_text (statuses_of setting.doors setting.controller report.world.world) ++ line_of (summary_data report.world.world.changes report.refused report.skipped) ≡ results_text setting o
+    string_bytes report.text ++ task_text setting report.world.world report.world.world.changes report.refused report.skipped setting.task ≡ results_text setting o
 unfolding results_text
 text_told setting o report told = rw (told.text, told.world, told.refused, told.skipped, changes_all o.changes) refl

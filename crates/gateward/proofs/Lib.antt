@@ -1,4 +1,10 @@
 pub mod Applying
+pub mod Characters
 pub mod Cutting
+pub mod Doors
+pub mod Numbers
 pub mod Plain
+pub mod Requests
+pub mod Running
+pub mod Starting
 pub mod Tables

@@ -3,9 +3,12 @@ pub mod Faults
 pub mod Lines
 pub mod Outputs
 pub mod Plain
+pub mod Quoted
 pub mod Readings
 pub mod Reports
+pub mod Requests
 pub mod RunText
 pub mod Runs
+pub mod SeenTasks
 pub mod Starts
 pub mod Words

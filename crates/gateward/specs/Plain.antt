@@ -1,8 +1,8 @@
 -- Plain words: a command, then options of its table, each at most once, and then DOORs.
-use Rattle.std.specs.Prelude.{◌≡◌, ℕ, List, [], ◌∷◌, ◌++◌, Bool, true, false, not, ◌&&◌, ◌==◌, codes, bytes_eq, if◌then◌else◌, Option, Some, option_map, unwrap_or, find, flat_map, filter}
+use Rattle.std.specs.Prelude.{◌≡◌, ℕ, List, [], ◌∷◌, ◌++◌, Bool, true, false, not, ◌&&◌, ◌==◌, codes, bytes_eq, if◌then◌else◌, Option, Some, option_map, find, flat_map, filter}
 use Rattle.std.specs.List.{list_all, list_any}
 use Rattle.gw_text.specs.model.Chains.{◌>>=◌}
-use Rattle.gateward.specs.Words.{StatusWords, status, default_controller, doors_of, command_of}
+use Rattle.gateward.specs.Words.{StatusWords, ExplainWords, status, explain, controller_by, doors_of, explain_by, command_of}
 
 -- An option as it is given: in one word, `--name=value`, or in two, `--name value`.
 pub record Given : Type 0 where
@@ -57,10 +57,21 @@ status_options = codes "controller" ∷ []
 abbrev pub plain_status : Plain → Option StatusWords
 plain_status p = do
   doors ← doors_of p.doors
-  Some (record { controller = unwrap_or (value_given (codes "controller") p.options) default_controller; doors = doors })
+  Some (record { controller = controller_by (value_given (codes "controller") p.options); doors = doors })
+
+-- The options of `explain`.
+abbrev pub explain_options : List (List ℕ)
+explain_options = codes "controller" ∷ codes "at" ∷ codes "request" ∷ []
+
+-- What plain words give `explain`.
+abbrev pub plain_explain : Plain → Option ExplainWords
+plain_explain p =
+    explain_by (value_given (codes "controller") p.options) (value_given (codes "at") p.options) (value_given (codes "request") p.options) p.doors
 
 -- Plain words are read as they stand: an option's value is the one after its name, and what follows the options are
--- DOORs. So only a value can make them wrong.
+-- DOORs. So only a value can make them wrong, or that a request is wanting.
 pub record ReadsPlain (words : List (List ℕ)) : Type 0 where
   pub status : (p : Plain) → is_plain status_options p ≡ true → words ≡ codes "status" ∷ plain_words p
       → command_of words ≡ option_map status (plain_status p)
+  pub explain : (p : Plain) → is_plain explain_options p ≡ true → words ≡ codes "explain" ∷ plain_words p
+      → command_of words ≡ option_map explain (plain_explain p)

@@ -1,13 +1,17 @@
--- What `gateward status` writes.
-use Rattle.std.specs.Prelude.{ℕ, ℤ, List, ◌++◌, length, codes, Bool, nat_lt, Option, None, Some, flat_map}
+-- What the program writes.
+use Rattle.std.specs.Prelude.{ℕ, ℤ, List, [], ◌++◌, length, codes, Bool, nat_lt, Option, None, Some, flat_map, slice_get}
+use Rattle.std.specs.Option.{option_map_or}
 use Rattle.serde_json.specs.Data.{Data, number, unsigned, string, object, member, no_members}
 use Rattle.gw_json.specs.Lines.{line_of}
-use Rattle.gw_text.specs.model.World.{world_of}
+use Rattle.gw_text.specs.model.World.{World, world_of}
 use Rattle.gw_text.specs.model.Statuses.{statuses_of}
 use Rattle.gw_status.specs.StatusText.{statuses_text}
+use Rattle.gw_frames.specs.model.Requests.{Request}
+use Rattle.gw_eval.specs.DoorRows.{rows_of}
+use Rattle.gw_decide.specs.ExplainText.{explain_text}
 use Rattle.gateward.specs.Lines.{lines_of}
 use Rattle.gateward.specs.EventLines.{Refused, LineResults, results_of}
-use Rattle.gateward.specs.Starts.{Setting}
+use Rattle.gateward.specs.Starts.{Setting, Task, a_status, an_explanation}
 
 -- How a refused line is printed, with the path of the field that it names.
 abbrev pub refused_object : ℕ → ℕ → Option (List ℕ) → Data
@@ -33,12 +37,25 @@ summary_data changes refused skipped =
     (member (codes "refused") (number (unsigned refused))
     (member (codes "skipped") (number (unsigned skipped)) no_members)))
 
--- The whole text of what came of the lines: the refused lines in input order, the statuses of the world of its changes, the summary.
+-- The statuses of a world, and the summary.
+abbrev pub status_text : Setting → World → ℕ → ℕ → ℕ → List ℕ
+status_text setting w changes refused skipped =
+    statuses_text (statuses_of setting.doors setting.controller w) ++ line_of (summary_data changes refused skipped)
+
+-- What becomes of a request at the door of a number, by the rows of a world after so many changes.
+abbrev pub explanation_text : Setting → World → ℕ → ℕ → Request → List ℕ
+explanation_text setting w changes at q =
+    option_map_or (λ door. explain_text (rows_of setting.doors setting.controller w door) q changes) (slice_get setting.doors at) []
+
+-- What a task writes of a world after so many changes, where so many lines were refused and skipped.
+abbrev pub task_text : Setting → World → ℕ → ℕ → ℕ → Task → List ℕ
+task_text setting w changes refused skipped a_status = status_text setting w changes refused skipped
+task_text setting w changes refused skipped (an_explanation at q) = explanation_text setting w changes at q
+
+-- The whole text of what came of the lines: the refused lines in input order, and then what the task writes of the world of their changes.
 unfoldable pub results_text : Setting → LineResults → List ℕ
 results_text setting r =
-    refused_text r.refused
-    ++ statuses_text (statuses_of setting.doors setting.controller (world_of r.changes))
-    ++ line_of (summary_data (length r.changes) (length r.refused) r.skipped)
+    refused_text r.refused ++ task_text setting (world_of r.changes) (length r.changes) (length r.refused) r.skipped setting.task
 
 -- The whole text of an input, read with these moments.
 abbrev pub run_text : Setting → List ℕ → List ℤ → List ℕ

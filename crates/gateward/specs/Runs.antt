@@ -6,7 +6,7 @@ use Rattle.gw_link.specs.Moments.{TicksInTurn}
 use Rattle.gateward.specs.Lines.{lines_of}
 use Rattle.gateward.specs.EventLines.{is_event_line}
 use Rattle.gateward.specs.Faults.{exit_code, fault_line}
-use Rattle.gateward.specs.Starts.{Setting, start_of}
+use Rattle.gateward.specs.Starts.{Setting, Starts}
 use Rattle.gateward.specs.RunText.{run_text, has_refused}
 use Rattle.gateward.specs.declared.fault.Fault.{Fault}
 use Rattle.gateward.specs.declared.fault.Fault.TheVariants.{Usage, TooManyDoors}
@@ -20,7 +20,7 @@ pub record HasMoments (input : List ℕ) (told : Option (List ℤ)) (moments : L
 -- The input was read to its end, and its text was written; the exit code says whether a line was refused.
 pub record WritesText (code : ℕ) (words : List (List ℕ)) (input : List ℕ) (told : Option (List ℤ)) (left before written : Option (List ℕ)) : Type 0 where
   pub setting : Setting
-  pub start : start_of words ≡ Ok setting
+  pub start : Starts words (Ok setting)
   pub moments : List ℤ
   pub one_each : HasMoments input told moments
   pub read : left ≡ Some []
@@ -30,7 +30,7 @@ pub record WritesText (code : ℕ) (words : List (List ℕ)) (input : List ℕ) 
 -- The front of the input's text was written.
 pub record WritesFront (words : List (List ℕ)) (input : List ℕ) (told : Option (List ℤ)) (before written : Option (List ℕ)) : Type 0 where
   pub setting : Setting
-  pub start : start_of words ≡ Ok setting
+  pub start : Starts words (Ok setting)
   pub moments : List ℤ
   pub one_each : HasMoments input told moments
   pub text : TakesPart before (run_text setting input moments) written
@@ -46,7 +46,7 @@ IsExitAtStart code = (code ≡ exit_code Usage) ⊎ (code ≡ exit_code TooManyD
 -- The words have a fault by which the program ends with this exit code, and its line was written.
 pub record EndsAtStart (code : ℕ) (words : List (List ℕ)) (before after : Option (List ℕ)) (faults faults' : ℕ) : Type 0 where
   pub fault : Fault
-  pub start : start_of words ≡ Err fault
+  pub start : Starts words (Err fault)
   pub exit : code ≡ exit_code fault
   pub line : WritesPiece before (fault_line fault) after faults faults'
 

@@ -1,15 +1,20 @@
 //! gateward: a Gateway API controller. `gateward status` reads watch events, one JSON object a line, and prints the
-//! statuses of the objects that are held after them.
+//! statuses of the objects that are held after them; `gateward explain` prints what becomes of a request by them.
 #![tactic(auto)]
 
+mod explanation;
 mod fault;
 mod lines;
+mod output;
 mod outside;
 mod print;
+mod quoted;
 mod report;
+mod request;
 mod run;
 mod start;
 mod status;
+mod task;
 mod words;
 
 use fault::Fault;

@@ -1,19 +1,20 @@
-ghost use Rattle.std.specs.Prelude.{◌≡◌, ◌+◌, ◌<◌, ◌≤◌, ◌⊎◌, ◌↔◌, [], length, map, if◌then◌else◌, Ok, Err, IfSome, IsOk, IsErr, string_bytes};
+ghost use Rattle.std.specs.Prelude.{◌≡◌, ◌+◌, ◌<◌, ◌≤◌, ◌⊎◌, ◌↔◌, [], length, map, if◌then◌else◌, Ok, Err, IfSome, string_bytes};
 ghost use Rattle.gw_link.specs.Faults.{HasRisen};
 ghost use Rattle.gw_link.specs.Pieces.{Takes, TakesPart};
 ghost use Rattle.gw_link.specs.declared.source.TheConstants.{MOST_INPUT, MOST_PIECE};
 ghost use Rattle.gateward.specs.Faults.{exit_code, fault_line};
-ghost use Rattle.gateward.specs.Starts.{start_of};
+ghost use Rattle.gateward.specs.Starts.{Setting as PlainSetting, Starts};
 ghost use Rattle.gateward.specs.Runs.{IsExit, IsExitAtStart, EndsAtStart, WritesText, WritesFront, WritesPiece};
 
 use crate::fault::Fault;
+use crate::output::{Output, output_of};
 use crate::start::start;
-use crate::status::{Output, status};
 use gw_link::{Clock, ReadFault, Sink, Source, read_all, write_all};
 use std::alloc::Global;
 
 /// Runs the program on the words that follow its name, and gives its exit code: 0, or 1 where a line was refused, or
 /// the one of the fault by which it ends.
+#[tactic(auto, using(crate::proofs::Starting::starts_unique))]
 pub fn run<S: Source, K: Sink, C: Clock + Drop>(
     alloc: Global,
     words: &[String],
@@ -29,8 +30,8 @@ pub fn run<S: Source, K: Sink, C: Clock + Drop>(
     // Words that are no command's, and doors that break a rule, end the run by this fault or for want of memory, and
     // leave the source as it was.
     ensures begin { IsExitAtStart result → EndsAtStart result (map string_bytes words.now) (K.written sink.old) (K.written sink.new) (K.faults sink.old) (K.faults sink.new) }
-    ensures fault { (fault : Fault) → start_of (map string_bytes words.now) ≡ Err fault → (result ≡ exit_code fault) ⊎ (result ≡ exit_code Fault.NoMemory) }
-    ensures unread { IsErr (start_of (map string_bytes words.now)) → source.new ≡ source.old }
+    ensures fault { (fault : Fault) → Starts (map string_bytes words.now) (Err fault) → (result ≡ exit_code fault) ⊎ (result ≡ exit_code Fault.NoMemory) }
+    ensures unread { (fault : Fault) → Starts (map string_bytes words.now) (Err fault) → source.new ≡ source.old }
 
     // Each other exit code comes only with its cause.
     ensures read { result ≡ exit_code Fault.ReadFailed → HasRisen (S.faults source.old) (S.faults source.new) }
@@ -49,7 +50,7 @@ pub fn run<S: Source, K: Sink, C: Clock + Drop>(
 
     // With a command's words and doors that break no rule, within the limit and without a fault, the text is written, or
     // memory was wanting.
-    ensures complete { IsOk (start_of (map string_bytes words.now)) →
+    ensures complete { (setting : PlainSetting) → Starts (map string_bytes words.now) (Ok setting) →
         S.given source.new ≤ S.given source.old + MOST_INPUT →
         (HasRisen (S.faults source.old) (S.faults source.new) → ⊥) →
         (HasRisen (K.faults sink.old) (K.faults sink.new) → ⊥) → (result < 2) ⊎ (result ≡ exit_code Fault.NoMemory) }
@@ -66,7 +67,7 @@ pub fn run<S: Source, K: Sink, C: Clock + Drop>(
         Err(ReadFault::TooLong) => return end(sink, Fault::TooLong),
         Err(ReadFault::NoMemory) => return end(sink, Fault::NoMemory),
     };
-    match status(alloc, &setting, input.as_slice(), &mut clock) {
+    match output_of(alloc, &setting, input.as_slice(), &mut clock) {
         Ok(output) => finish(sink, &output),
         Err(_) => end(sink, Fault::NoMemory),
     }

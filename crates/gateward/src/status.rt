@@ -1,48 +1,19 @@
-ghost use Rattle.std.specs.Prelude.{◌≡◌, ◌<◌, ◌≤◌, ◌++◌, length, IfOk, string_bytes};
-ghost use Rattle.gw_status.specs.StatusText.{statuses_text};
+ghost use Rattle.std.specs.Prelude.{◌≡◌, ◌<◌, ◌++◌, IfOk, string_bytes};
 ghost use Rattle.gw_text.specs.model.Statuses.{statuses_of};
-ghost use Rattle.gw_link.specs.declared.source.TheConstants.{MOST_INPUT};
 ghost use Rattle.gw_json.specs.Lines.{line_of};
-ghost use Rattle.gateward.specs.RunText.{summary_data};
-ghost use Rattle.gateward.specs.Outputs.{IsOutput};
+ghost use Rattle.gateward.specs.RunText as texts;
 
 use crate::print::summary_value;
-use crate::report::{Report, apply_lines};
+use crate::report::Report;
 use crate::start::Setting;
 use gw_eval::eval_all;
 use gw_json::push_line;
-use gw_link::{Clock, MOST_INPUT};
 use gw_status::{Statuses, push_statuses};
 use gw_store::World;
 use gw_text::{NoMemory, Steps, Text};
 use std::alloc::Global;
 use std::marker::Brand;
 use std::sync::ledger::{Blank, Ledger};
-
-/// What `status` gives for an input.
-#[derive(Drop)]
-pub struct Output {
-    /// What it prints.
-    pub text: Text,
-    /// Whether a line was refused.
-    pub refused: bool,
-}
-
-/// What `status` gives for `input`: its refused lines, the statuses of the objects that are held after it, and its summary.
-pub fn status<C: Clock>(
-    alloc: Global,
-    setting: &Setting,
-    input: &[u8],
-    clock: &mut C,
-) -> Result<Output, NoMemory>
-    requires { length input.now ≤ MOST_INPUT }
-    ensures { IfOk result (IsOutput setting.now input.now (C.moments clock.old)) }
-{
-    let report = apply_lines(alloc, input, clock)?;
-    let refused = report.refused > 0;
-    let text = report_text(alloc, setting, report)?;
-    Ok(Output { text, refused })
-}
 
 // The statuses of a world. Nobody asks for the steps that they take.
 fn statuses<L: Ledger>(
@@ -66,11 +37,10 @@ fn statuses<L: Ledger>(
     )
 }
 
-// The refused lines, the statuses, the summary.
-fn report_text(alloc: Global, setting: &Setting, report: Report) -> Result<Text, NoMemory>
+/// The refused lines, the statuses of the objects that are held, and the summary.
+pub fn status_text(alloc: Global, setting: &Setting, report: Report) -> Result<Text, NoMemory>
     ensures { IfOk result (λ text. text ≡ string_bytes report.text
-        ++ statuses_text (statuses_of setting.now.doors setting.now.controller report.world.world)
-        ++ line_of (summary_data report.world.world.changes report.refused report.skipped)) }
+        ++ texts.status_text setting.now report.world.world report.world.world.changes report.refused report.skipped) }
 {
     let statuses = statuses::<Brand>(alloc, setting, &report.world, Blank::new(1))?;
     let summary = summary_line(alloc, &report)?;
@@ -81,7 +51,7 @@ fn report_text(alloc: Global, setting: &Setting, report: Report) -> Result<Text,
 }
 
 fn summary_line(alloc: Global, report: &Report) -> Result<String, NoMemory>
-    ensures { IfOk result (λ line. string_bytes line ≡ line_of (summary_data report.now.world.world.changes report.now.refused report.now.skipped)) }
+    ensures { IfOk result (λ line. string_bytes line ≡ line_of (texts.summary_data report.now.world.world.changes report.now.refused report.now.skipped)) }
 {
     let value = summary_value(
         alloc,

@@ -5,7 +5,9 @@ use std::alloc::{AllocError, Global};
 use std::test::*;
 
 mod attachment;
+mod choices;
 mod edge;
+mod explanations;
 mod faults;
 mod limits;
 mod references;
@@ -51,20 +53,24 @@ fn words(alloc: Global, text: &str) -> Result<Vec<String>, AllocError> {
     Ok(words)
 }
 
-fn run_over(
-    alloc: Global,
-    text: &str,
-    mut source: MemSource,
-    mut sink: MemSink,
-) -> Result<Ran, AllocError> {
+fn run_words(alloc: Global, words: &[String], mut source: MemSource, mut sink: MemSink) -> Ran {
     let clock = MemClock::new(Vec::new(alloc));
-    let words = words(alloc, text)?;
-    let exit_code = run(alloc, words.as_slice(), &mut source, &mut sink, clock);
-    Ok(Ran {
+    let exit_code = run(alloc, words, &mut source, &mut sink, clock);
+    Ran {
         exit_code,
         sink,
         source,
-    })
+    }
+}
+
+fn run_over(
+    alloc: Global,
+    text: &str,
+    source: MemSource,
+    sink: MemSink,
+) -> Result<Ran, AllocError> {
+    let words = words(alloc, text)?;
+    Ok(run_words(alloc, words.as_slice(), source, sink))
 }
 
 fn run_on(alloc: Global, words: &str, input: Vec<u8>) -> Result<Ran, AllocError> {

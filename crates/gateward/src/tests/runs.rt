@@ -185,18 +185,20 @@ fn classes_of_others_and_with_parameters(rt: HostRuntime) -> Result<(), Fail> {
 
 #[test]
 fn words_and_doors_that_are_refused(rt: HostRuntime) -> Result<(), Fail> {
-    let table = "usage 2 status --nope
+    let table = r#"usage 2 status --nope
 usage 2
 usage 2 --help
 usage 2 status --help
 usage 2 Status
 usage 2 explain
+usage 2 explain --request "" default/g:80=127.0.0.1:18080
+usage 2 explain --request "x" default/g:80=127.0.0.1:18080 default/g:81=127.0.0.2:18081
 usage 2 status default/g:80
 usage 2 status default/g:80=127.0.0.1:18080 nowhere
 TwoAddresses 5 status default/g:80=127.0.0.1:18080 default/g:81=127.0.0.2:18081
 DoorTwice 5 status default/g:80=127.0.0.1:18080 default/g:80=127.0.0.1:18081
 DoorTwice 5 status default/g:80=127.0.0.1:18080 default/h:80=127.0.0.1:18080
-usage 2 status default/g:80=127.0.0.1:18080 default/g:81=127.0.0.2:18081 -x";
+usage 2 status default/g:80=127.0.0.1:18080 default/g:81=127.0.0.2:18081 -x"#;
     for row in table.split('\n') {
         expect_fault(&rt, row)?;
     }

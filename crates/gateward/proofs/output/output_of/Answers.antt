@@ -1,7 +1,7 @@
 -- The report tells of all lines.
 use Rattle.std.proofs.Common.{◌∙◌, ap, nat_lt}
 use Rattle.gateward.proofs.Applying.{text_told}
-use Rattle.gateward.proofs.status.status.Goals as goal
+use Rattle.gateward.proofs.output.output_of.Goals as goal
 
 pub returns : goal.returns
 returns g c =
