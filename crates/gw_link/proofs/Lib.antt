@@ -1,3 +1,6 @@
+pub mod BecomesLemmas
+pub mod ExchangeLemmas
 pub mod FaultLemmas
+pub mod LinkLemmas
 pub mod MomentLemmas
 pub mod PieceLemmas

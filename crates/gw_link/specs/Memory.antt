@@ -1,5 +1,5 @@
 -- What the forms in memory are, and what each of their calls does.
-use Rattle.std.specs.Prelude.{ℕ, ℤ, ◌+◌, ◌==◌, Bool, if◌then◌else◌, min, List, ◌++◌, length, take, drop, slice_index_or}
+use Rattle.std.specs.Prelude.{ℕ, ℤ, ◌+◌, ◌-◌, ◌==◌, Bool, nat_lt, if◌then◌else◌, min, List, ◌++◌, length, take, drop, fold, slice_index_or}
 use Rattle.std.specs.List.{list_any}
 use Rattle.gw_link.specs.Faults.{one_more}
 
@@ -79,6 +79,21 @@ abbrev pub after_write : List ℕ → Bool → SinkState → SinkState
 after_write piece is_taken sink =
     if is_failing sink.calls then record sink { calls = after_fail sink.calls }
     else (if is_taken then after_taking piece sink else after_starving sink)
+
+-- A connection in memory: what is read from it, what is written to it, and the places between the pieces in which its bytes
+-- come, counted from the first byte.
+pub record LinkState : Type 0 where
+  pub source : SourceState
+  pub sink : SinkState
+  pub cuts : List ℕ
+
+-- Of so many bytes behind so many others those before the place, where it is ahead.
+abbrev pub up_to_cut : ℕ → ℕ → ℕ → ℕ
+up_to_cut given size cut = if nat_lt given cut then min size (cut - given) else size
+
+-- Of so many bytes those of one piece.
+abbrev pub in_one_piece : LinkState → ℕ → ℕ
+in_one_piece link size = fold (up_to_cut link.source.given) size link.cuts
 
 -- The moments to come, and the one that was given last: 0 before the first.
 pub record ClockState : Type 0 where

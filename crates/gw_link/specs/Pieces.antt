@@ -23,5 +23,5 @@ abbrev pub TakesPart : Option (List ℕ) → List ℕ → Option (List ℕ) → 
 TakesPart before piece after = (n : ℕ) × ((n ≤ length piece) × Takes before (take n piece) after)
 
 -- What is told stays as it was.
-abbrev pub Keeps : Option (List ℕ) → Option (List ℕ) → Type 0
+abbrev pub Keeps : {A : Type 0} → Option A → Option A → Type 0
 Keeps before after = IfSome before (λ told. after ≡ Some told)

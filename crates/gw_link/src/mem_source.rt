@@ -66,6 +66,13 @@ impl MemSource {
         &self.bytes[self.at..]
     }
 
+    /// How many bytes were given.
+    pub fn given(&self) -> usize
+        ensures { result ≡ self.now.given }
+    {
+        self.at
+    }
+
     /// How many reads have failed.
     pub fn faults(&self) -> u64
         ensures { result ≡ self.now.calls.faults }

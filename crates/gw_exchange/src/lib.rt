@@ -1,0 +1,8 @@
+// One exchange with a backend: the response, or why there is none.
+#![tactic(auto)]
+
+mod backend;
+mod fault;
+
+pub use backend::{MOST_GIVEN, MOST_PIECE, exchange};
+pub use fault::ExchangeFault;
