@@ -1,0 +1,6 @@
+//! Tests of values that change for those who read them, over public calls. They stand alone, since a crate with tests is proved
+//! twice.
+#![tactic(auto)]
+
+#[cfg(test)]
+mod snapshots;
