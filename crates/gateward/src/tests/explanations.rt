@@ -25,6 +25,7 @@ fn explained(alloc: Global, words: &[&str], lines: &[&str]) -> Result<Ran, Alloc
     Ok(run_words(alloc, given.as_slice(), source, sink))
 }
 
+/// What the program prints of a request, over lines of events.
 pub fn expect_explanation(
     rt: &(impl Abort + AllocGlobal),
     words: &[&str],
