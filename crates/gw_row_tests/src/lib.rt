@@ -9,5 +9,3 @@ mod fitting;
 mod listeners;
 #[cfg(test)]
 mod precedence;
-#[cfg(test)]
-mod sorted;
