@@ -97,6 +97,9 @@ impl Inlet {
         ensures err { OnErr result ((bytes : List ℕ) (steps : List Plain) → StandsFor self.old bytes steps → StandsFor self.new bytes steps) }
         ensures over { is_over self.new ≡ is_over self.old }
     {
+        if self.waits() {
+            return Ok(Step::Need);
+        }
         if let Some(step) = self.next_of_head()? {
             return Ok(step);
         }
@@ -108,6 +111,18 @@ impl Inlet {
         ensures { (bytes : List ℕ) (steps : List Plain) → StandsFor self.now bytes steps → result ≡ ended steps }
     {
         self.stage.ended()
+    }
+
+    // Whether a head comes next that isn't whole, and more bytes may come. Asked first, it spares the large results of what follows.
+    fn waits(&mut self) -> bool
+        ensures head { result ≡ true → self.old.stage ≡ Stage.Head }
+        ensures need { result ≡ true → IsStill self.old Step.Need }
+        ensures same { self.new ≡ self.old }
+    {
+        let Stage::Head = &self.stage else {
+            return false;
+        };
+        !self.over && matches!(self.buffer.find_head(), Found::Part)
     }
 
     // The step where a head comes next, if there is one before its body.

@@ -106,6 +106,9 @@ impl ReplyReader {
             → StandsFor to_head self.new bytes given) }
         ensures over { self.new.over ≡ self.old.over }
     {
+        if self.waits() {
+            return Ok(ReplyStep::Need);
+        }
         match &self.stage {
             Stage::Done => Ok(ReplyStep::Need),
             Stage::Failed(fault) => Ok(ReplyStep::Fault(*fault)),
@@ -113,6 +116,18 @@ impl ReplyReader {
             Stage::Body(_, _) => self.next_open(),
             Stage::ToEnd(_) => self.next_open(),
         }
+    }
+
+    // Whether a head comes next that isn't whole, and more bytes may come. Asked first, it spares the large results of what follows.
+    fn waits(&mut self) -> bool
+        ensures need { result ≡ true → IsStep self.old self.old ReplyStep.Need }
+        ensures open { result ≡ true → IsOpen self.old.stage }
+        ensures same { self.new ≡ self.old }
+    {
+        let Stage::Head = &self.stage else {
+            return false;
+        };
+        !self.over && matches!(self.buffer.find_head(), Found::Part)
     }
 
     // The step where nothing was given.
