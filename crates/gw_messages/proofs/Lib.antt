@@ -4,6 +4,8 @@ pub mod CodingLists
 pub mod Cutting
 pub mod FieldSpans
 pub mod LineEnds
+pub mod LineSearches
 pub mod Numbers
+pub mod OpenLines
 pub mod Readings
 pub mod Sections

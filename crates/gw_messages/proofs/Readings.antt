@@ -1,9 +1,9 @@
 -- How far bodies have come.
-use Rattle.std.proofs.Common.{◌≡◌, ℕ, ◌+◌, ◌-◌, ◌≤◌, ◌<◌, Bool, true, false, List, [], ◌++◌, length, take, drop, refl, sym, ap, ◌∙◌, subst, arith, length-append, append_assoc, min, eq-eqb, nat_lt, ◌&&◌, ◌==◌}
+use Rattle.std.proofs.Common.{◌≡◌, ℕ, ◌+◌, ◌-◌, ◌≤◌, ◌<◌, Bool, true, false, List, [], ◌++◌, length, take, drop, refl, sym, ap, ◌∙◌, subst, arith, length-append, append_assoc, min, eq-eqb, nat_lt, ◌&&◌, ◌==◌, if◌then◌else◌}
 use Rattle.std.specs.Prelude.{Result, Ok, Err, OnErr}
-use Rattle.std.proofs.lemmas.Bool.{lt-ltb, le-ltb}
+use Rattle.std.proofs.lemmas.Bool.{eqb-false, lt-ltb, le-ltb}
 use borrow.Author.Tests.{eqb-true}
-use Rattle.std.proofs.lemmas.List.{take-append-le, drop-append-le, drop-take, drop-drop, length-take, length-take-le, length-drop, take-append-drop, take_rest, append-nil}
+use Rattle.std.proofs.lemmas.List.{take-append-le, drop-append-le, drop-take, drop-drop, length-take, length-take-le, length-drop, take-append-drop, append-nil}
 use Rattle.gw_messages.specs.model.Sections.{IsCut, NoneBelow, whole_section, long_section, ends_trailers}
 use Rattle.gw_messages.proofs.Sections.{take_take, long_more, whole_more}
 use Rattle.gw_messages.specs.model.Bodies.{Body, whole_body, bad_body, part_body, behind, within, Chunks, last_chunk, stopped_chunk, whole_chunk, IsChunked, IsLine, whole_line, chunk_data}
@@ -12,8 +12,10 @@ use Rattle.gw_messages.proofs.ChunkData.{data_more, data_size}
 use Rattle.gw_messages.proofs.ChunkLines.{line_more, seen_more}
 use Rattle.gw_messages.specs.Chunks.{IsData}
 use Rattle.gw_messages.specs.declared.chunk.Data.{Data}
-use Rattle.gw_messages.specs.Readings.{within_after, IsFinished, IsRest, Leads, IsProgress}
+use Rattle.gw_messages.specs.Readings.{behind_line, within_after, IsFinished, IsRest, Leads, IsProgress}
 use Rattle.gw_messages.specs.declared.body.Decoder.{Decoder}
+use Rattle.gw_messages.specs.declared.body.Stage.{Stage}
+use Rattle.gw_messages.specs.declared.body.Stage.TheVariants.{Data as BeforeData, Trailers}
 use Rattle.gw_messages.specs.declared.body.Reading.{Reading}
 use Rattle.gw_messages.specs.declared.body.Reading.TheVariants.{Chunked}
 use Rattle.gw_messages.specs.declared.body.Progress.{Progress}
@@ -93,9 +95,9 @@ both_false true b h = h refl
 both_false false b h = refl
 
 -- the trailers end the body, unless it has too many bytes
-pub finished_progress : (d new : Decoder) (n : ℕ) (bytes : List ℕ) (p : Progress) → d.trailing ≡ true → n ≤ length bytes → IsCut ends_trailers 16384 bytes (whole_section (take n bytes) (drop n bytes))
+pub finished_progress : (d new : Decoder) (n : ℕ) (bytes : List ℕ) (p : Progress) → d.stage ≡ Trailers → n ≤ length bytes → IsCut ends_trailers 16384 bytes (whole_section (take n bytes) (drop n bytes))
     → n ≤ d.limits.encoded + 1 - d.taken → d.taken ≤ d.limits.encoded + 1 → IsFinished d.limits.encoded d.content.items (d.taken + n) p → IsProgress (Chunked d) bytes (Chunked new) (drop n bytes) p
-finished_progress d new n bytes (progresses.Whole content) trailing fits cut le few is = λ next.
+finished_progress d new n bytes (progresses.Whole content) stage fits cut le few is = λ next.
     let most = d.limits.encoded + 1 - d.taken in
     let seen = take most (bytes ++ next) in
     let left : length (drop n seen) ≡ length seen - n = length-drop n seen in
@@ -103,11 +105,11 @@ finished_progress d new n bytes (progresses.Whole content) trailing fits cut le 
     let fine : (length (drop n seen) == 0 && nat_lt d.limits.encoded (d.taken + length (bytes ++ next))) ≡ false =
     both_false _ _ (λ e. le-ltb d.limits.encoded (d.taken + length (bytes ++ next)) (omega (arith, eqb-true _ _ e, left, size, is.0))) in (
       whole_body [] (drop n seen),
-      subst (λ (t : Bool). IsRest t (d.limits.content - length d.content.items) seen (whole_body [] (drop n seen))) (sym trailing)
+      subst (λ (t : Stage). IsRest t (d.limits.content - length d.content.items) seen (whole_body [] (drop n seen))) (sym stage)
           (whole_section (take n bytes) (drop n seen), whole_seen ends_trailers n most bytes next le fits cut, refl),
       (rw (fine, append-nil, is.1, rest_seen n most bytes next le fits) refl),
     )
-finished_progress d new n bytes (progresses.Bad fault) trailing fits cut le few is = λ next.
+finished_progress d new n bytes (progresses.Bad fault) stage fits cut le few is = λ next.
     let most = d.limits.encoded + 1 - d.taken in
     let seen = take most (bytes ++ next) in
     let left : length (drop n seen) ≡ length seen - n = length-drop n seen in
@@ -115,11 +117,11 @@ finished_progress d new n bytes (progresses.Bad fault) trailing fits cut le few 
     let none : (length (drop n seen) == 0) ≡ true = eq-eqb (length (drop n seen)) 0 (omega (arith, left, size, is.0)) in
     let over : nat_lt d.limits.encoded (d.taken + length (bytes ++ next)) ≡ true = lt-ltb d.limits.encoded (d.taken + length (bytes ++ next)) (omega (arith, length-append bytes next, is.0)) in (
       whole_body [] (drop n seen),
-      subst (λ (t : Bool). IsRest t (d.limits.content - length d.content.items) seen (whole_body [] (drop n seen))) (sym trailing)
+      subst (λ (t : Stage). IsRest t (d.limits.content - length d.content.items) seen (whole_body [] (drop n seen))) (sym stage)
           (whole_section (take n bytes) (drop n seen), whole_seen ends_trailers n most bytes next le fits cut, refl),
       rw (none, over, is.1) refl,
     )
-finished_progress d new n bytes progresses.Part trailing fits cut le few is = absurd is
+finished_progress d new n bytes progresses.Part stage fits cut le few is = absurd is
 
 -- data at the front of a body, one behind the other
 behind_twice : (a b : List ℕ) (body : Body) → behind a (behind b body) ≡ behind (a ++ b) body
@@ -154,49 +156,51 @@ rest_after n most before next more fits e =
     sym (drop-append-le n (take most before) more fits) ∙ ap (drop n) (sym e ∙ ap (λ k. take k (before ++ next)) (sym all)) ∙ drop-take n (most - n) (before ++ next)
     ∙ ap (take (most - n)) (drop-append-le n before next (omega (arith, fits, size)))
 
--- the last chunk's line was taken
-pub last_leads : (room most taken n : ℕ) (content before after next : List ℕ) (decoded body : Body) → taken ≤ most + 1 → n ≤ length (take (most + 1 - taken) before) → after ≡ drop n before
-    → IsLine (take (most + 1 - taken) before) (whole_line 0 (drop n (take (most + 1 - taken) before)))
-    → IsRest true room (take (most + 1 - (taken + n)) (after ++ next)) decoded → body ≡ within_after most (taken + n) (after ++ next) (behind content decoded)
+-- what comes behind a line that was taken
+pub behind_leads : (room size : ℕ) (line rest : List ℕ) (body : Body) → IsLine line (whole_line size rest) → IsRest (behind_line size) room rest body → Chunks room line body
+behind_leads room size line rest body is comes = by_test (size == 0) refl comes
+  where
+    by_test : (t : Bool) → (size == 0) ≡ t → IsRest (if t then Trailers else BeforeData size) room rest body → Chunks room line body
+    by_test true e last = last_chunk rest last.0 (subst (λ k. IsLine line (whole_line k rest)) (eqb-true size 0 e) is) last.1 last.2
+    by_test false e data_come = data_come line (omega (arith, eqb-false size 0 e)) is
+
+-- a chunk's line was taken
+pub line_leads : (room most taken n size : ℕ) (content before after next : List ℕ) (decoded body : Body) → taken ≤ most + 1 → n ≤ length (take (most + 1 - taken) before) → after ≡ drop n before
+    → IsLine (take (most + 1 - taken) before) (whole_line size (drop n (take (most + 1 - taken) before)))
+    → IsRest (behind_line size) room (take (most + 1 - (taken + n)) (after ++ next)) decoded → body ≡ within_after most (taken + n) (after ++ next) (behind content decoded)
     → Chunks room (take (most + 1 - taken) (before ++ next)) decoded × (body ≡ within_after most taken (before ++ next) (behind content decoded))
-last_leads room most taken n content before after next decoded body few fits e line rest is =
+line_leads room most taken n size content before after next decoded body few fits e line rest is =
     let seen = take (most + 1 - taken) before in
-    let size : length seen ≡ min (most + 1 - taken) (length before) = length-take (most + 1 - taken) before in
+    let size_is : length seen ≡ min (most + 1 - taken) (length before) = length-take (most + 1 - taken) before in
     let more = seen_more (most + 1 - taken) before next in
     let left : most + 1 - taken - n ≡ most + 1 - (taken + n) = omega arith in
-    let behind_line : drop n seen ++ more.0 ≡ take (most + 1 - (taken + n)) (after ++ next) =
+    let later : drop n seen ++ more.0 ≡ take (most + 1 - (taken + n)) (after ++ next) =
     rest_after n (most + 1 - taken) before next more.0 fits more.1 ∙ ap (λ (b : List ℕ). take (most + 1 - taken - n) (b ++ next)) (sym e) ∙ ap (λ k. take k (after ++ next)) left in (
-      subst (λ (s : List ℕ). Chunks room s decoded) (sym more.1)
-          (last_chunk (drop n seen ++ more.0) rest.0 (line_more seen more.0 0 (drop n seen) line)
-          (subst (λ (s : List ℕ). IsCut ends_trailers 16384 s rest.0) (sym behind_line) rest.1) rest.2),
+      behind_leads room size (take (most + 1 - taken) (before ++ next)) (take (most + 1 - (taken + n)) (after ++ next)) decoded
+          (subst (λ (s : List ℕ). IsLine s (whole_line size (take (most + 1 - (taken + n)) (after ++ next)))) (sym more.1)
+          (subst (λ (r : List ℕ). IsLine (seen ++ more.0) (whole_line size r)) later (line_more seen more.0 size (drop n seen) line))) rest,
       is ∙ ap (λ (b : List ℕ). within_after most (taken + n) (b ++ next) (behind content decoded)) e
-          ∙ within_later most taken n before next (behind content decoded) (omega (arith, fits, size)) (omega (arith, fits, size, few)),
+          ∙ within_later most taken n before next (behind content decoded) (omega (arith, fits, size_is)) (omega (arith, fits, size_is, few)),
     )
 
--- a chunk was taken
-pub chunk_leads : (room later most taken size line n : ℕ) (content piece before after next : List ℕ) (decoded body : Body) → taken ≤ most + 1 → 0 < size
-    → line ≤ length (take (most + 1 - taken) before) → n ≡ line + size + 2 → later ≡ room - size → after ≡ drop n before
-    → piece ≡ take size (drop line (take (most + 1 - taken) before))
-    → IsLine (take (most + 1 - taken) before) (whole_line size (drop line (take (most + 1 - taken) before)))
-    → chunk_data room size (drop line (take (most + 1 - taken) before))
-    ≡ whole_body (take size (drop line (take (most + 1 - taken) before))) (drop (size + 2) (drop line (take (most + 1 - taken) before)))
+-- a chunk's data were taken
+pub data_leads : (room later most taken size n : ℕ) (content piece before after next : List ℕ) (decoded body : Body) → taken ≤ most + 1 → n ≡ size + 2 → later ≡ room - size → after ≡ drop n before
+    → piece ≡ take size (take (most + 1 - taken) before)
+    → chunk_data room size (take (most + 1 - taken) before) ≡ whole_body (take size (take (most + 1 - taken) before)) (drop (size + 2) (take (most + 1 - taken) before))
     → Chunks later (take (most + 1 - (taken + n)) (after ++ next)) decoded → body ≡ within_after most (taken + n) (after ++ next) (behind (content ++ piece) decoded)
-    → Chunks room (take (most + 1 - taken) (before ++ next)) (behind piece decoded) × (body ≡ within_after most taken (before ++ next) (behind content (behind piece decoded)))
-chunk_leads room later most taken size line n content piece before after next decoded body few some fits all left e piece_is is_line is_data chunks is =
+    → IsRest (BeforeData size) room (take (most + 1 - taken) (before ++ next)) (behind piece decoded) × (body ≡ within_after most taken (before ++ next) (behind content (behind piece decoded)))
+data_leads room later most taken size n content piece before after next decoded body few all left e piece_is is_data chunks is =
     let seen = take (most + 1 - taken) before in
-    let rest = drop line seen in
     let size_is : length seen ≡ min (most + 1 - taken) (length before) = length-take (most + 1 - taken) before in
-    let enough : size + 2 ≤ length rest = data_size room size rest _ _ is_data in
-    let within : n ≤ length seen = omega (arith, enough, fits, all, length-drop line seen) in
+    let enough : size + 2 ≤ length seen = data_size room size seen _ _ is_data in
+    let within : n ≤ length seen = omega (arith, enough, all) in
     let more = seen_more (most + 1 - taken) before next in
     let count : most + 1 - taken - n ≡ most + 1 - (taken + n) = omega arith in
-    let places : line + (size + 2) ≡ n = omega (arith, all) in
-    let behind_data : drop (size + 2) rest ++ more.0 ≡ take (most + 1 - (taken + n)) (after ++ next) =
-    ap (λ (b : List ℕ). b ++ more.0) (drop-drop (size + 2) line seen ∙ ap (λ k. drop k seen) places)
-    ∙ rest_after n (most + 1 - taken) before next more.0 within more.1 ∙ ap (λ (b : List ℕ). take (most + 1 - taken - n) (b ++ next)) (sym e) ∙ ap (λ k. take k (after ++ next)) count in (
-      subst (λ (s : List ℕ). Chunks room s (behind piece decoded)) (sym more.1)
-          (whole_chunk size (rest ++ more.0) (take size rest) (drop (size + 2) rest ++ more.0) decoded some (line_more seen more.0 size rest is_line)
-          (data_more room size rest more.0 _ _ is_data)
+    let behind_data : drop (size + 2) seen ++ more.0 ≡ take (most + 1 - (taken + n)) (after ++ next) =
+    ap (λ k. drop k seen ++ more.0) (sym all) ∙ rest_after n (most + 1 - taken) before next more.0 within more.1
+    ∙ ap (λ (b : List ℕ). take (most + 1 - taken - n) (b ++ next)) (sym e) ∙ ap (λ k. take k (after ++ next)) count in (
+      (λ chunk some line. whole_chunk size (take (most + 1 - taken) (before ++ next)) (take size seen) (drop (size + 2) seen ++ more.0) decoded some line
+          (subst (λ (s : List ℕ). chunk_data room size s ≡ whole_body (take size seen) (drop (size + 2) seen ++ more.0)) (sym more.1) (data_more room size seen more.0 _ _ is_data))
           (subst (λ (s : List ℕ). Chunks (room - size) s decoded) (sym behind_data) (subst (λ k. Chunks k (take (most + 1 - (taken + n)) (after ++ next)) decoded) left chunks))
           (ap (λ (d : List ℕ). behind d decoded) piece_is)),
       is ∙ ap (λ (b : List ℕ). within_after most (taken + n) (b ++ next) (behind (content ++ piece) decoded)) e
@@ -205,22 +209,16 @@ chunk_leads room later most taken size line n content piece before after next de
     )
 
 -- the data of a chunk have a fault, whatever comes behind
-pub chunk_stops : (room most taken size line : ℕ) (before next : List ℕ) (fault : BodyFault) → 0 < size
-    → IsLine (take (most + 1 - taken) before) (whole_line size (drop line (take (most + 1 - taken) before)))
-    → ((more : List ℕ) → chunk_data room size (drop line (take (most + 1 - taken) before) ++ more) ≡ bad_body fault)
-    → Chunks room (take (most + 1 - taken) (before ++ next)) (bad_body fault)
-chunk_stops room most taken size line before next fault some line_is stops =
-    let seen = take (most + 1 - taken) before in
-    let more = seen_more (most + 1 - taken) before next in
-    subst (λ (s : List ℕ). Chunks room s (bad_body fault)) (sym more.1)
-    (stopped_chunk size (drop line seen ++ more.0) some (line_more seen more.0 size (drop line seen) line_is) (sym (stops more.0)) refl)
+pub data_stops : (room most size : ℕ) (before next : List ℕ) (fault : BodyFault) → ((more : List ℕ) → chunk_data room size (take most before ++ more) ≡ bad_body fault)
+    → IsRest (BeforeData size) room (take most (before ++ next)) (bad_body fault)
+data_stops room most size before next fault stops =
+    let more = seen_more most before next in
+    λ chunk some line. stopped_chunk size (take most (before ++ next)) some line (sym (ap (chunk_data room size) more.1 ∙ stops more.0)) refl
 
--- what was read behind a chunk's line
-pub data_seen : (room len used size line : ℕ) (front seen : List ℕ) (d : Data) → len ≡ used → front ≡ seen → IsData (room - len) size (take (length front - line) (drop line front)) d → IsData (room - used) size (drop line seen) d
-data_seen room len used size line front seen d len_is front_is is =
-    subst (λ k. IsData (room - k) size (drop line seen) d) len_is
-    (subst (λ (s : List ℕ). IsData (room - len) size (drop line s) d) front_is
-    (subst (λ (s : List ℕ). IsData (room - len) size s d) (take_rest front line) is))
+-- what was read of a chunk's data
+pub data_seen : (room len used size : ℕ) (front seen : List ℕ) (d : Data) → len ≡ used → front ≡ seen → IsData (room - len) size front d → IsData (room - used) size seen d
+data_seen room len used size front seen d len_is front_is is =
+    subst (λ k. IsData (room - k) size seen d) len_is (subst (λ (s : List ℕ). IsData (room - len) size s d) front_is is)
 
 -- fewer bytes are left
 pub fewer : (n most : ℕ) (before after : List ℕ) → 0 < n → 0 < length (take most before) → after ≡ drop n before → length after < length before

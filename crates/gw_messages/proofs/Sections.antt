@@ -1,10 +1,12 @@
 -- Where sections end.
-use Rattle.std.proofs.Common.{◌≡◌, ℕ, zero, suc, ◌+◌, ◌-◌, ◌≤◌, Bool, true, false, not, List, [], ◌∷◌, ◌++◌, length, take, drop, arith, refl, sym, ap, ◌∙◌, ◌||◌, ◌&&◌, ◌==◌, nat_eq, length-append, append_assoc}
+use Rattle.std.proofs.Common.{◌≡◌, ℕ, zero, suc, ◌+◌, ◌-◌, ◌≤◌, Bool, true, false, not, List, [], ◌∷◌, ◌++◌, length, take, drop, arith, refl, sym, ap, ◌∙◌, ◌||◌, ◌&&◌, ◌==◌, nat_eq, length-append, append_assoc, if◌then◌else◌}
 use Rattle.std.specs.List.{starts_with}
 use Rattle.std.proofs.lemmas.List.{take-append-drop, take_rest, take-append-le, drop-append-le}
 use Rattle.gw_messages.specs.model.Sections.{are_empty_lines, ends_head, ends_trailers, ends_with_empty_line, IsCut, long_section, whole_section, NoneBelow}
 use Rattle.gw_messages.specs.Searches.{IsBuffer, IsHeadSearch, IsSearch}
 use Rattle.gw_messages.specs.declared.section.Search.{Search}
+use Rattle.gw_messages.specs.declared.line.LineSearch.{LineSearch}
+use Rattle.gw_messages.proofs.LineSearches.{fresh_line_search, longer_line_search}
 
 -- both tests hold
 pub both_parts : (s t : Bool) → (s && t) ≡ true → (s ≡ true) × (t ≡ true)
@@ -80,14 +82,21 @@ longer_head_search s bytes more h =
     }
 
 -- more bytes leave what was looked at
-pub longer_buffer : (start : ℕ) (bytes more : List ℕ) (heads trailers : Search) → IsBuffer start bytes heads trailers → IsBuffer start (bytes ++ more) heads trailers
-longer_buffer start bytes more heads trailers h =
+longer_buffer : (start : ℕ) (bytes more : List ℕ) (heads trailers : Search) (lines : LineSearch) → IsBuffer start bytes heads trailers lines → IsBuffer start (bytes ++ more) heads trailers lines
+longer_buffer start bytes more heads trailers lines h =
     let split : drop start (bytes ++ more) ≡ drop start bytes ++ more = drop-append-le start bytes more h.within in
     record {
       within = omega (arith, h.within, length-append bytes more);
       head_search = rw split (longer_head_search heads (drop start bytes) more h.head_search);
       trailers_search = rw split (longer_search ends_trailers trailers (drop start bytes) more h.trailers_search);
+      line_search = rw split (longer_line_search lines (drop start bytes) more h.line_search);
     }
+
+-- a piece was put behind the bytes, or not
+pub fed_buffer : (start : ℕ) (before piece after : List ℕ) (heads trailers : Search) (lines : LineSearch) (fed : Bool) → after ≡ (if fed then before ++ piece else before)
+    → IsBuffer start before heads trailers lines → IsBuffer start after heads trailers lines
+fed_buffer start before piece after heads trailers lines true e h = rw e (longer_buffer start before piece heads trailers lines h)
+fed_buffer start before piece after heads trailers lines false e h = rw e h
 
 none_at_start : (ends : List ℕ → Bool) (bytes : List ℕ) → ends [] ≡ false → NoneBelow ends (0 + 1) bytes
 none_at_start ends bytes e = λ n lt.
@@ -102,9 +111,11 @@ fresh ends s bytes seen e = record {
 }
 
 -- where nothing was looked at
-pub fresh_buffer : (start : ℕ) (bytes : List ℕ) (heads trailers : Search) → start ≤ length bytes → heads.seen ≡ 0 → heads.blank ≡ 0 → trailers.seen ≡ 0 → IsBuffer start bytes heads trailers
-fresh_buffer start bytes heads trailers fits seen blank trailers_seen = record {
+pub fresh_buffer : (start : ℕ) (bytes : List ℕ) (heads trailers : Search) (lines : LineSearch) → start ≤ length bytes → heads.seen ≡ 0 → heads.blank ≡ 0 → trailers.seen ≡ 0 → lines.seen ≡ 0
+    → IsBuffer start bytes heads trailers lines
+fresh_buffer start bytes heads trailers lines fits seen blank trailers_seen lines_seen = record {
   within = fits;
   head_search = record { search = fresh ends_head heads (drop start bytes) seen refl; before = omega (arith, seen, blank); blank = rw blank refl };
   trailers_search = fresh ends_trailers trailers (drop start bytes) trailers_seen refl;
+  line_search = fresh_line_search lines (drop start bytes) lines_seen;
 }

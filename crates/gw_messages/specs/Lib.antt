@@ -2,6 +2,7 @@ pub mod Chunks
 pub mod Codings
 pub mod Elements
 pub mod Fields
+pub mod Lines
 pub mod Readings
 pub mod Searches
 pub mod Spans

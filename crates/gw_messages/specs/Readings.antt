@@ -1,9 +1,11 @@
 -- How far a body has come, and what it comes to with the bytes behind.
-use Rattle.std.specs.Prelude.{ℕ, ◌+◌, ◌-◌, ◌<◌, ◌≤◌, ◌≡◌, List, ◌++◌, length, take, drop, Bool, true, false, ◌&&◌, ◌==◌, nat_lt, if◌then◌else◌}
-use Rattle.gw_messages.specs.model.Bodies.{Body, whole_body, bad_body, part_body, behind, limited_body, Chunks, after_trailers}
+use Rattle.std.specs.Prelude.{ℕ, ◌+◌, ◌-◌, ◌<◌, ◌≤◌, ◌≡◌, List, ◌++◌, length, take, drop, ◌&&◌, ◌==◌, nat_lt, if◌then◌else◌}
+use Rattle.gw_messages.specs.model.Bodies.{Body, whole_body, bad_body, part_body, behind, limited_body, Chunks, IsLine, whole_line, after_trailers}
 use Rattle.gw_messages.specs.model.Sections.{Section, IsCut, ends_trailers}
 use Rattle.gw_messages.specs.declared.fault.BodyFault.TheVariants.{TooBig as IsTooBig}
 use Rattle.gw_messages.specs.declared.body.Decoder.{Decoder}
+use Rattle.gw_messages.specs.declared.body.Stage.{Stage}
+use Rattle.gw_messages.specs.declared.body.Stage.TheVariants as stages
 use Rattle.gw_messages.specs.declared.body.Reading.{Reading}
 use Rattle.gw_messages.specs.declared.body.Reading.TheVariants.{Sized, Chunked}
 use Rattle.gw_messages.specs.declared.body.Progress.{Progress}
@@ -17,15 +19,20 @@ within_after most taken bytes (whole_body content rest) =
 within_after most taken bytes (bad_body fault) = bad_body fault
 within_after most taken bytes part_body = if nat_lt most (taken + length bytes) then bad_body IsTooBig else part_body
 
--- What bytes are from a chunk on, or behind the last chunk.
-abbrev pub IsRest : Bool → ℕ → List ℕ → Body → Type 0
-IsRest false room bytes body = Chunks room bytes body
-IsRest true room bytes body = (section : Section) × IsCut ends_trailers 16384 bytes section × (body ≡ after_trailers section)
+-- What comes behind the line of a chunk of this size: behind that of the last one the trailer section.
+abbrev pub behind_line : ℕ → Stage
+behind_line size = if size == 0 then stages.Trailers else stages.Data size
+
+-- What bytes are from a chunk's line on, or from its data on, whatever line stands before these, or behind the last chunk's line.
+abbrev pub IsRest : Stage → ℕ → List ℕ → Body → Type 0
+IsRest stages.Line room bytes body = Chunks room bytes body
+IsRest (stages.Data size) room bytes body = (chunk : List ℕ) → 0 < size → IsLine chunk (whole_line size bytes) → Chunks room chunk body
+IsRest stages.Trailers room bytes body = (section : Section) × IsCut ends_trailers 16384 bytes section × (body ≡ after_trailers section)
 
 -- What a decoder makes of the bytes behind those that it took.
 abbrev pub Decodes : Decoder → List ℕ → Body → Type 0
 Decodes d bytes body =
-    (decoded : Body) × IsRest d.trailing (d.limits.content - length d.content.items) (take (d.limits.encoded + 1 - d.taken) bytes) decoded
+    (decoded : Body) × IsRest d.stage (d.limits.content - length d.content.items) (take (d.limits.encoded + 1 - d.taken) bytes) decoded
     × (body ≡ within_after d.limits.encoded d.taken bytes (behind d.content.items decoded))
 
 -- What a body comes to with the bytes behind those that were taken.

@@ -4,6 +4,8 @@ use Rattle.gw_messages.specs.model.Sections.{whole_section, long_section, part_s
 use Rattle.gw_messages.specs.declared.section.Found.{Found}
 use Rattle.gw_messages.specs.declared.section.Found.TheVariants.{Whole, Long, Part}
 use Rattle.gw_messages.specs.declared.section.Search.{Search}
+use Rattle.gw_messages.specs.declared.line.LineSearch.{LineSearch}
+use Rattle.gw_messages.specs.Lines.{IsLineSearch}
 
 -- The bytes, cut where the search says.
 abbrev pub IsFound : (List ℕ → Bool) → List ℕ → Found → Type 0
@@ -40,8 +42,9 @@ pub record IsHeadSearch (s : Search) (bytes : List ℕ) : Type 0 where
 abbrev pub IsTrailersSearch : Search → List ℕ → Type 0
 IsTrailersSearch s bytes = IsSearch ends_trailers s bytes
 
--- What a buffer keeps: bytes, from a start on, and how far the ends of sections were looked for in these.
-pub record IsBuffer (start : ℕ) (bytes : List ℕ) (heads trailers : Search) : Type 0 where
+-- What a buffer keeps: bytes, from a start on, and how far the ends of sections and of a chunk's line were looked for in these.
+pub record IsBuffer (start : ℕ) (bytes : List ℕ) (heads trailers : Search) (lines : LineSearch) : Type 0 where
   pub within : start ≤ length bytes
   pub head_search : IsHeadSearch heads (drop start bytes)
   pub trailers_search : IsTrailersSearch trailers (drop start bytes)
+  pub line_search : IsLineSearch lines (drop start bytes)

@@ -1,9 +1,9 @@
-ghost use Rattle.std.specs.Prelude.{◌≡◌, ◌+◌, ◌-◌, ◌^◌, ◌<◌, ◌≤◌, true, false, length, take, drop, List, ℕ, IfOk, IfSome, OnErr, Ok, None};
+ghost use Rattle.std.specs.Prelude.{◌≡◌, ◌+◌, ◌-◌, ◌^◌, ◌<◌, ◌≤◌, length, take, List, ℕ, IfOk, IfSome, OnErr, Ok, None};
 ghost use Rattle.gw_messages.specs.model.Bodies.{Body, IsBody, part_body};
 
 use crate::buffer::Buffer;
 use crate::bytes::first;
-use crate::chunk::{Data, Line, read_data, read_line};
+use crate::chunk::{Data, Line, read_data};
 use crate::fault::BodyFault;
 use crate::section::Found;
 use gw_text::NoMemory;
@@ -39,10 +39,20 @@ pub struct Decoder {
     content: Vec<u8>,
     /// How many bytes were taken from the buffer.
     taken: usize,
-    /// Whether the last chunk was taken.
-    trailing: bool,
+    stage: Stage,
     ghost room: { length content.items ≤ limits.content },
     ghost few: { taken ≤ limits.encoded + 1 },
+}
+
+/// What comes next of a chunked body. A line that was taken isn't read again while its chunk's data come.
+#[derive(Clone, Copy)]
+enum Stage {
+    /// A chunk's line.
+    Line,
+    /// The data of a chunk whose line announced so many bytes.
+    Data(u64),
+    /// The trailer section.
+    Trailers,
 }
 
 /// What comes of a body.
@@ -67,7 +77,7 @@ impl Reading {
                 limits,
                 content: Vec::new(alloc),
                 taken: 0,
-                trailing: false,
+                stage: Stage::Line,
             }),
         }
     }
@@ -106,57 +116,72 @@ impl Buffer {
     }
 }
 
+impl Stage {
+    ghost use Rattle.gw_messages.specs.Readings.{behind_line};
+
+    // What comes behind the line of a chunk of this size: the last one has none.
+    fn behind_line(size: u64) -> Self
+        ensures { result ≡ behind_line size }
+    {
+        if size == 0 {
+            return Stage::Trailers;
+        }
+        Stage::Data(size)
+    }
+}
+
 impl Decoder {
     ghost use Rattle.gw_messages.specs.Readings.{IsFinished, IsProgress, IsRest, Leads};
     ghost use Rattle.gw_messages.specs.declared.body.Reading.TheVariants.{Chunked as IsChunked};
-    ghost use Rattle.gw_messages.specs.model.Bodies.{IsLine, whole_line};
+    ghost use Rattle.gw_messages.specs.declared.body.Stage.TheVariants.{Line as IsBeforeLine, Data as IsBeforeData, Trailers as IsBeforeTrailers};
 
-    // Takes chunk after chunk.
+    // Takes part after part.
     fn read(&mut self, buffer: &mut Buffer) -> Result<Progress, NoMemory>
         ensures progress { IfOk result (IsProgress (IsChunked self.old) buffer.old (IsChunked self.new) buffer.new) }
         ensures err { OnErr result (Leads (IsChunked self.old) buffer.old (IsChunked self.new) buffer.new) }
     {
-        'chunks: while !self.trailing {
-            if let Some(progress) = self.take_chunk(buffer)? {
+        'parts: loop {
+            if let Some(progress) = self.take_next(buffer)? {
                 return Ok(progress);
             }
         }
-        Ok(self.take_trailers(buffer))
     }
 
-    // Takes a chunk, or says what comes of the body.
-    fn take_chunk(&mut self, buffer: &mut Buffer) -> Result<Option<Progress>, NoMemory>
-        requires { self.old.trailing ≡ false }
+    // Takes the next part, or says what comes of the body.
+    fn take_next(&mut self, buffer: &mut Buffer) -> Result<Option<Progress>, NoMemory>
         ensures stopped { IfOk result (λ stop. IfSome stop (IsProgress (IsChunked self.old) buffer.old (IsChunked self.new) buffer.new)) }
         ensures taken { result ≡ Ok None → Leads (IsChunked self.old) buffer.old (IsChunked self.new) buffer.new }
         ensures smaller { result ≡ Ok None → length buffer.new < length buffer.old }
         ensures err { OnErr result (Leads (IsChunked self.old) buffer.old (IsChunked self.new) buffer.new) }
     {
-        let seen = first(buffer.bytes(), self.limits.encoded + 1 - self.taken);
-        match read_line(seen) {
-            Line::Bad => Ok(Some(Progress::Bad(BodyFault::Malformed))),
-            Line::Part => Ok(Some(self.part(buffer))),
-            Line::Whole(0, length) => {
-                self.taken += length;
-                self.trailing = true;
-                buffer.advance(length);
-                Ok(None)
-            }
-            Line::Whole(size, length) => self.take_data(buffer, size, length),
+        match self.stage {
+            Stage::Line => Ok(self.take_line(buffer)),
+            Stage::Data(size) => self.take_data(buffer, size),
+            Stage::Trailers => Ok(Some(self.take_trailers(buffer))),
         }
     }
 
-    // Takes a chunk whose line has so many bytes, or says what comes of the body.
-    fn take_data(
-        &mut self,
-        buffer: &mut Buffer,
-        size: u64,
-        line: usize,
-    ) -> Result<Option<Progress>, NoMemory>
-        requires trailing { self.old.trailing ≡ false }
-        requires size { 0 < size }
-        requires within { (0 < line) × (line ≤ length (take (self.old.limits.encoded + 1 - self.old.taken) buffer.old)) }
-        requires line_is { IsLine (take (self.old.limits.encoded + 1 - self.old.taken) buffer.old) (whole_line size (drop line (take (self.old.limits.encoded + 1 - self.old.taken) buffer.old))) }
+    // Takes a chunk's line, or says what comes of the body.
+    fn take_line(&mut self, buffer: &mut Buffer) -> Option<Progress>
+        requires { self.old.stage ≡ IsBeforeLine }
+        ensures stopped { IfSome result (IsProgress (IsChunked self.old) buffer.old (IsChunked self.new) buffer.new) }
+        ensures taken { result ≡ None → Leads (IsChunked self.old) buffer.old (IsChunked self.new) buffer.new }
+        ensures smaller { result ≡ None → length buffer.new < length buffer.old }
+    {
+        let (size, length) = match buffer.read_line(self.limits.encoded + 1 - self.taken) {
+            Line::Bad => return Some(Progress::Bad(BodyFault::Malformed)),
+            Line::Part => return Some(self.part(buffer)),
+            Line::Whole(size, length) => (size, length),
+        };
+        self.stage = Stage::behind_line(size);
+        self.taken += length;
+        buffer.advance(length);
+        None
+    }
+
+    // Takes the data of a chunk of this size, or says what comes of the body.
+    fn take_data(&mut self, buffer: &mut Buffer, size: u64) -> Result<Option<Progress>, NoMemory>
+        requires { self.old.stage ≡ IsBeforeData size }
         ensures stopped { IfOk result (λ stop. IfSome stop (IsProgress (IsChunked self.old) buffer.old (IsChunked self.new) buffer.new)) }
         ensures taken { result ≡ Ok None → Leads (IsChunked self.old) buffer.old (IsChunked self.new) buffer.new }
         ensures smaller { result ≡ Ok None → length buffer.new < length buffer.old }
@@ -164,14 +189,15 @@ impl Decoder {
     {
         let room = self.limits.content - self.content.len();
         let seen = first(buffer.bytes(), self.limits.encoded + 1 - self.taken);
-        match read_data(room, size, &seen[line..]) {
+        match read_data(room, size, seen) {
             Data::TooBig => return Ok(Some(Progress::Bad(BodyFault::TooBig))),
             Data::Malformed => return Ok(Some(Progress::Bad(BodyFault::Malformed))),
             Data::Part => return Ok(Some(self.part(buffer))),
             Data::Whole => {}
         }
-        let end = line + size as usize;
-        self.content.extend_from_slice(&seen[line..end])?;
+        let end = size as usize;
+        self.content.extend_from_slice(&seen[..end])?;
+        self.stage = Stage::Line;
         self.taken += end + 2;
         buffer.advance(end + 2);
         Ok(None)
@@ -179,7 +205,7 @@ impl Decoder {
 
     // Takes the trailer section, or says what comes of the body.
     fn take_trailers(&mut self, buffer: &mut Buffer) -> Progress
-        requires { self.old.trailing ≡ true }
+        requires { self.old.stage ≡ IsBeforeTrailers }
         ensures { IsProgress (IsChunked self.old) buffer.old (IsChunked self.new) buffer.new result }
     {
         let most = self.limits.encoded + 1 - self.taken;
@@ -214,7 +240,7 @@ impl Decoder {
 
     // Where the body isn't whole: that may be since it has too many bytes.
     fn part(&self, buffer: &Buffer) -> Progress
-        requires { IsRest self.now.trailing (self.now.limits.content - length self.now.content.items) (take (self.now.limits.encoded + 1 - self.now.taken) buffer.now) part_body }
+        requires { IsRest self.now.stage (self.now.limits.content - length self.now.content.items) (take (self.now.limits.encoded + 1 - self.now.taken) buffer.now) part_body }
         ensures { IsProgress (IsChunked self.now) buffer.now (IsChunked self.now) buffer.now result }
     {
         if self.taken + buffer.bytes().len() > self.limits.encoded {

@@ -1,8 +1,12 @@
 ghost use Rattle.std.specs.Prelude.{◌≡◌, ℕ, [], ◌++◌, ◌≤◌, length, drop, take, OnOk, OnErr};
 ghost use Rattle.gw_messages.specs.model.Sections.{ends_head, ends_trailers};
+ghost use Rattle.gw_messages.specs.model.Bodies.{IsLine};
+ghost use Rattle.gw_messages.specs.Chunks.{IsLineWithin, seen_line};
 ghost use Rattle.gw_messages.specs.Searches.{IsFound};
 
 use crate::bytes::first;
+use crate::chunk::Line;
+use crate::line::LineSearch;
 use crate::section::{Found, Search};
 use std::alloc::{AllocError, Global};
 use std::marker::Model;
@@ -10,7 +14,7 @@ use std::marker::Model;
 /// A buffer that was emptied keeps no more memory than this, which is that of one head.
 const MOST_KEPT: usize = 16384;
 
-/// Bytes that came and weren't taken yet. It knows how far the ends of sections were looked for.
+/// Bytes that came and weren't taken yet. It knows how far the ends of sections and of a chunk's line were looked for.
 #[derive(Drop)]
 pub struct Buffer {
     alloc: Global,
@@ -18,6 +22,7 @@ pub struct Buffer {
     start: usize,
     heads: Search,
     trailers: Search,
+    lines: LineSearch,
 }
 
 impl Model for Buffer {
@@ -28,7 +33,7 @@ impl Model for Buffer {
 
     ghost view = { λ b. drop b.start b.bytes.items };
 
-    ghost invariant = { λ b. IsBuffer b.start b.bytes.items b.heads b.trailers };
+    ghost invariant = { λ b. IsBuffer b.start b.bytes.items b.heads b.trailers b.lines };
 }
 
 impl Buffer {
@@ -42,6 +47,7 @@ impl Buffer {
             start: 0,
             heads: Search::new(),
             trailers: Search::new(),
+            lines: LineSearch::new(),
         }
     }
 
@@ -87,6 +93,7 @@ impl Buffer {
     {
         self.heads = Search::new();
         self.trailers = Search::new();
+        self.lines = LineSearch::new();
         self.start += count;
         if self.start == self.bytes.len() {
             self.clear();
@@ -116,6 +123,7 @@ impl Buffer {
         self.start = 0;
         self.heads = Search::new();
         self.trailers = Search::new();
+        self.lines = LineSearch::new();
     }
 
     /// Where the head ends at whose beginning the bytes begin.
@@ -134,5 +142,15 @@ impl Buffer {
     {
         let bytes = self.bytes.as_slice().split_at(self.start).1;
         self.trailers.find_trailers(bytes)
+    }
+
+    /// The line of a chunk at the front, of which at most so many bytes are looked at.
+    pub fn read_line(&mut self, most: usize) -> Line
+        ensures line { IsLine (take most self.old) (seen_line (take most self.old) result) }
+        ensures within { IsLineWithin (take most self.old) result }
+        ensures same { self.new ≡ self.old }
+    {
+        let bytes = self.bytes.as_slice().split_at(self.start).1;
+        self.lines.read_line(bytes, most)
     }
 }

@@ -1,4 +1,4 @@
-ghost use Rattle.std.specs.Prelude.{◌≡◌, take, drop};
+ghost use Rattle.std.specs.Prelude.{◌≡◌, drop};
 ghost use Rattle.gw_messages.specs.model.Bodies.{begins_as_line_end, is_long_line, IsLine};
 ghost use Rattle.gw_messages.specs.Chunks.{IsData, IsLineWithin, seen_line};
 
@@ -6,7 +6,7 @@ use crate::bytes::{first, index_of};
 use httparse::{Status, parse_chunk_size};
 
 /// The most bytes of a chunk's line, without its end.
-const MOST_LINE: usize = 1024;
+pub const MOST_LINE: usize = 1024;
 
 /// What stands where a chunk begins.
 pub enum Line {

@@ -79,7 +79,8 @@ fn trim_end(bytes: &[u8]) -> &[u8]
     left
 }
 
-fn is_blank(byte: u8) -> bool
+/// Whether the byte is a space or tab.
+pub fn is_blank(byte: u8) -> bool
     ensures { result ≡ is_ows byte }
 {
     byte == b' ' || byte == b'\t'

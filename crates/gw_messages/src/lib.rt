@@ -9,6 +9,7 @@ pub mod coding;
 pub mod element;
 pub mod fault;
 pub mod field;
+pub mod line;
 pub mod number;
 pub mod section;
 pub mod spans;

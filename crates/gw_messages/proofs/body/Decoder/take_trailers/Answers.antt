@@ -1,9 +1,10 @@
 -- What comes of the body behind its last chunk.
-use Rattle.std.proofs.Common.{ℕ, ◌+◌, ◌-◌, ◌++◌, List, Bool, length, take, drop, refl, sym, ap, ◌∙◌, subst, arith}
+use Rattle.std.proofs.Common.{ℕ, ◌+◌, ◌-◌, ◌++◌, List, length, take, drop, refl, sym, ap, ◌∙◌, subst, arith}
 use Rattle.gw_messages.specs.model.Bodies.{bad_body}
 use Rattle.gw_messages.specs.declared.fault.BodyFault.TheVariants.{LongTrailers}
 use Rattle.gw_messages.specs.model.Sections.{ends_trailers, long_section}
 use Rattle.gw_messages.specs.Readings.{IsProgress, IsRest}
+use Rattle.gw_messages.specs.declared.body.Stage.{Stage}
 use Rattle.gw_messages.specs.declared.body.Reading.TheVariants.{Chunked}
 use Rattle.gw_messages.proofs.Readings.{finished_progress, long_seen}
 use Rattle.gw_messages.proofs.body.Decoder.take_trailers.Goals as goal
@@ -16,7 +17,7 @@ pub returns-then-most-gt-MOST_TRAILERS : goal.returns-then-most-gt-MOST_TRAILERS
 returns-then-most-gt-MOST_TRAILERS c =
     λ next. (
       bad_body LongTrailers,
-      subst (λ (t : Bool). IsRest t (c.args.self.now.limits.content - length c.args.self.now.content.items) (take (c.args.self.now.limits.encoded + 1 - c.args.self.now.taken) (c.args.buffer.now ++ next)) (bad_body LongTrailers)) (sym c.requires)
+      subst (λ (t : Stage). IsRest t (c.args.self.now.limits.content - length c.args.self.now.content.items) (take (c.args.self.now.limits.encoded + 1 - c.args.self.now.taken) (c.args.buffer.now ++ next)) (bad_body LongTrailers)) (sym c.requires)
           (long_section, long_seen ends_trailers (c.args.self.now.limits.encoded + 1 - c.args.self.now.taken) c.args.buffer.now next (omega arith) c.in-Long.ensures.found, refl),
       refl,
     )
