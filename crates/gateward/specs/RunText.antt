@@ -7,7 +7,7 @@ use Rattle.gw_text.specs.model.World.{World, world_of}
 use Rattle.gw_text.specs.model.Statuses.{statuses_of}
 use Rattle.gw_status.specs.StatusText.{statuses_text}
 use Rattle.gw_frames.specs.model.Requests.{Request}
-use Rattle.gw_eval.specs.DoorRows.{rows_of}
+use Rattle.gw_rows.specs.model.DoorRows.{rows_of}
 use Rattle.gw_decide.specs.ExplainText.{explain_text}
 use Rattle.gateward.specs.Lines.{lines_of}
 use Rattle.gateward.specs.EventLines.{Refused, LineResults, results_of}

@@ -13,7 +13,7 @@ use Rattle.gw_text.specs.model.Stored.{Stored}
 use Rattle.gw_text.specs.model.World.{World}
 use Rattle.gw_rows.specs.model.Rows.{Row, Rows, ServedListener}
 use Rattle.gw_eval.specs.Candidates.{Candidate, PlannedRule, candidate_of, candidate_rows, candidates_of, has_places, places_in, places_of, planned_hostname_rows, planned_rows, planned_rule}
-use Rattle.gw_eval.specs.DoorRows.{RouteHostname, hostname_rows, hostnames_for, listener_rows, route_rows, rows_of, served_at}
+use Rattle.gw_rows.specs.model.DoorRows.{RouteHostname, hostname_rows, hostnames_for, listener_rows, route_rows, rows_of, served_at}
 
 any_where : (place : ℕ) (here : Bool) (places : List ℕ) → list_any (nat_eq place) (if here then places else []) ≡ (here && list_any (nat_eq place) places)
 any_where place true places = refl

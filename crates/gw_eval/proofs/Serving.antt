@@ -6,7 +6,7 @@ use Rattle.std.proofs.Math.Seq.{drop-cons}
 use Rattle.gw_text.specs.model.Doors.{Door}
 use Rattle.gw_text.specs.model.Gateways.{Gateway, Listener}
 use Rattle.gw_text.specs.model.Listeners.{gateway_state, listener_state}
-use Rattle.gw_eval.specs.DoorRows.{is_served, served_by, served_listener}
+use Rattle.gw_rows.specs.model.DoorRows.{is_served, served_by, served_listener}
 
 -- what holds besides may be left out
 pub holds_too : (a here b : Bool) → here ≡ true → (a && b) ≡ (a && here && b)

@@ -10,7 +10,7 @@ use Rattle.gw_text.specs.model.Statuses.{Entry, entries_of}
 use Rattle.gw_text.specs.model.Stored.{Stored}
 use Rattle.gw_text.specs.model.World.{World}
 use Rattle.gw_rows.specs.model.Rows.{Row, ServedListener}
-use Rattle.gw_eval.specs.DoorRows.{RouteHostname, hostnames_for, row_of}
+use Rattle.gw_rows.specs.model.DoorRows.{RouteHostname, hostnames_for, row_of}
 
 -- A rule of a Route, with its place and what it does.
 pub record PlannedRule : Type 0 where

@@ -3,20 +3,15 @@ use Rattle.std.specs.Prelude.{ℕ, List, map, flat_map, Option, option_map}
 use Rattle.std.specs.List.{filter_map}
 use Rattle.gw_text.specs.declared.condition.Reason.{Reason}
 use Rattle.gw_text.specs.model.Attachment.{Attachment}
-use Rattle.gw_text.specs.model.Chains.{◌>>=◌}
 use Rattle.gw_text.specs.model.Conditions.{Condition}
 use Rattle.gw_text.specs.model.Doors.{Door}
-use Rattle.gw_text.specs.model.Gateways.{Gateway}
 use Rattle.gw_text.specs.model.Names.{Key}
 use Rattle.gw_text.specs.model.Plans.{Plan, plans_of}
 use Rattle.gw_text.specs.model.References.{backend_state_in, first_of, resolved_unless, unresolved}
 use Rattle.gw_text.specs.model.Routes.{BackendRef, HttpRoute, Rule}
-use Rattle.gw_text.specs.model.Statuses.{GatewayStatus, ParentStatus, entries_of, gateway_status_of, parent_statuses_of, where_managed}
-use Rattle.gw_text.specs.model.World.{World, gateway_at, route_at}
-
--- The Gateway of this key, where it is held and managed.
-abbrev pub managed_at : List ℕ → World → Key → Option Gateway
-managed_at controller w key = gateway_at w key >>= where_managed controller w
+use Rattle.gw_text.specs.model.Statuses.{GatewayStatus, ParentStatus, entries_of, gateway_status_of, parent_statuses_of}
+use Rattle.gw_text.specs.model.World.{World, route_at}
+use Rattle.gw_rows.specs.model.DoorRows.{managed_at}
 
 -- Its status.
 abbrev pub gateway_status_at : List Door → List ℕ → World → Key → Option GatewayStatus

@@ -1,7 +1,7 @@
 //! The rows of a door.
 ghost use Rattle.std.specs.Prelude.{◌≡◌, ◌<◌, ◌++◌, IfOk, OnOk, flat_map, get_or, length, option_copied};
 ghost use Rattle.gw_eval.specs.Candidates as evaluated;
-ghost use Rattle.gw_eval.specs.DoorRows as rows;
+ghost use Rattle.gw_rows.specs.model.DoorRows as rows;
 ghost use Rattle.gw_text.specs.model.Doors.{Door as PlainDoor};
 ghost use Rattle.gw_text.specs.model.Stored.{creation};
 

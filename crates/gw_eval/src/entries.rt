@@ -6,7 +6,7 @@ ghost use Rattle.gw_text.specs.model.Statuses as statuses;
 ghost use Rattle.gw_text.specs.model.World.{gateway_key, namespace_labels};
 ghost use Rattle.gw_store.specs.Table.{IsPlaceOf, at_place};
 ghost use Rattle.gw_eval.specs.Counting.{entries_in, ArePlaced, IsPlaced};
-ghost use Rattle.gw_eval.specs.Results.{managed_at};
+ghost use Rattle.gw_rows.specs.model.DoorRows.{managed_at};
 
 use crate::classes::is_managed;
 use gw_attach::{Attachment, attach};

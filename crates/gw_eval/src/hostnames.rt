@@ -2,7 +2,7 @@
 ghost use Rattle.std.specs.Prelude.{◌≡◌, ◌&&◌, ◌++◌, ◌∷◌, [], not, if◌then◌else◌, IfOk, OnOk};
 ghost use Rattle.std.specs.List.{list_any};
 ghost use Rattle.gw_text.specs.model.Hostnames.{same_host};
-ghost use Rattle.gw_eval.specs.DoorRows as rows;
+ghost use Rattle.gw_rows.specs.model.DoorRows as rows;
 
 use crate::served::number;
 use gw_host::meets;
@@ -19,7 +19,7 @@ pub struct RouteHostname<'r> {
 
 impl<'r> Model for RouteHostname<'r> {
     ghost use Rattle.std.specs.Prelude.{option_copied};
-    ghost use Rattle.gw_eval.specs.DoorRows.{RouteHostname as Plain};
+    ghost use Rattle.gw_rows.specs.model.DoorRows.{RouteHostname as Plain};
 
     ghost Value = { Plain };
 

@@ -1,7 +1,7 @@
 //! The listeners of a door at which requests are taken.
 ghost use Rattle.std.specs.Prelude.{◌≡◌, ◌==◌, ◌&&◌, ◌++◌, ◌∷◌, [], true, if◌then◌else◌, IfOk, OnOk};
 ghost use Rattle.gw_text.specs.model.Listeners as rules;
-ghost use Rattle.gw_eval.specs.DoorRows as rows;
+ghost use Rattle.gw_rows.specs.model.DoorRows as rows;
 
 use crate::entries::managed_position;
 use gw_listener::{gateway_state, listener_states};

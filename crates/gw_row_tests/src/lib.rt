@@ -9,3 +9,5 @@ mod fitting;
 mod listeners;
 #[cfg(test)]
 mod precedence;
+#[cfg(test)]
+mod sorted;

@@ -2,7 +2,7 @@
 use Rattle.std.proofs.Common.{◌∙◌, ap}
 use Rattle.std.proofs.lemmas.Result.{IfOk-weaker}
 use Rattle.gw_decide.specs.ExplainText.{explain_text}
-use Rattle.gw_eval.specs.DoorRows.{rows_of}
+use Rattle.gw_rows.specs.model.DoorRows.{rows_of}
 use Rattle.gateward.proofs.Doors.{at_door}
 use Rattle.gateward.proofs.explanation.verdict_text.Goals as goal
 

@@ -1,7 +1,7 @@
 -- The rows so far, and then those of the other matches, are those of all.
 use Rattle.std.proofs.Common.{◌≡◌, ◌++◌, map, drop}
 use Rattle.std.specs.List.{enumerate_from}
-use Rattle.gw_eval.specs.DoorRows.{row_of}
+use Rattle.gw_rows.specs.model.DoorRows.{row_of}
 use Rattle.gw_eval.proofs.door_rows.push_rule.Given as goal
 
 abbrev pub invariant-matches : goal.invariant-matches

@@ -1,6 +1,6 @@
 -- The hostnames so far are those of the places so far.
 use Rattle.std.proofs.Common.{◌≡◌, take}
-use Rattle.gw_eval.specs.DoorRows.{meeting_hostnames}
+use Rattle.gw_rows.specs.model.DoorRows.{meeting_hostnames}
 use Rattle.gw_eval.proofs.hostnames.meeting.Given as goal
 
 abbrev pub invariant-hosts : goal.invariant-hosts

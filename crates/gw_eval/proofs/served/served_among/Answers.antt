@@ -2,7 +2,7 @@
 use Rattle.std.proofs.Common.{◌≡◌, ◌<◌, ◌∙◌, ◌==◌, ◌&&◌, ℕ, sym, get_or, ap, rules, length}
 use Rattle.gw_text.specs.model.Gateways.{Listener}
 use Rattle.gw_text.specs.model.Listeners.{ListenerState, gateway_state, listener_state}
-use Rattle.gw_eval.specs.DoorRows.{is_served, served_listener}
+use Rattle.gw_rows.specs.model.DoorRows.{is_served, served_listener}
 use Rattle.gw_eval.proofs.Rows.{state_at}
 use Rattle.gw_eval.proofs.Serving.{filtered_more, holds_too}
 use Rattle.gw_eval.proofs.served.served_among.Goals as goal

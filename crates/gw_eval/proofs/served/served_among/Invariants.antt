@@ -2,7 +2,7 @@
 use Rattle.std.proofs.Common.{◌≡◌, ◌++◌, map, drop}
 use Rattle.std.specs.Prelude.{filter}
 use Rattle.std.specs.List.{enumerate_from}
-use Rattle.gw_eval.specs.DoorRows.{is_served, served_listener}
+use Rattle.gw_rows.specs.model.DoorRows.{is_served, served_listener}
 use Rattle.gw_eval.proofs.served.served_among.Given as goal
 
 abbrev pub invariant-listeners : goal.invariant-listeners

@@ -2,18 +2,23 @@
 use Rattle.std.specs.Prelude.{ℕ, List, [], ◌∷◌, Bool, true, ◌&&◌, ◌==◌, map, filter, flat_map, Option, Some, None}
 use Rattle.std.specs.List.{enumerate_from}
 use Rattle.std.specs.Option.{option_map_or}
+use Rattle.gw_text.specs.model.Chains.{◌>>=◌}
 use Rattle.gw_text.specs.model.Doors.{Door}
 use Rattle.gw_text.specs.model.Gateways.{Listener, Gateway}
 use Rattle.gw_text.specs.model.Hostnames.{Host, meets, same_host}
 use Rattle.gw_text.specs.model.Listeners.{gateway_state, listener_state}
 use Rattle.gw_text.specs.model.Matches.{Match}
+use Rattle.gw_text.specs.model.Names.{Key}
 use Rattle.gw_text.specs.model.Plans.{Plan, plan_of}
 use Rattle.gw_text.specs.model.Routes.{Rule, HttpRoute}
-use Rattle.gw_text.specs.model.Statuses.{entries_of, is_attached}
+use Rattle.gw_text.specs.model.Statuses.{entries_of, is_attached, where_managed}
 use Rattle.gw_text.specs.model.Stored.{Stored, creation}
-use Rattle.gw_text.specs.model.World.{World}
+use Rattle.gw_text.specs.model.World.{World, gateway_at}
 use Rattle.gw_rows.specs.model.Rows.{Row, Rows, ServedListener, first_of_each}
-use Rattle.gw_eval.specs.Results.{managed_at}
+
+-- The Gateway of this key, where it is held and managed.
+abbrev pub managed_at : List ℕ → World → Key → Option Gateway
+managed_at controller w key = gateway_at w key >>= where_managed controller w
 
 -- A listener at a place of a Gateway's list is served at a door where it has the door's port, and both it and the Gateway are
 -- programmed. Source: ListenerConditionProgrammed and GatewayConditionProgrammed.
