@@ -9,6 +9,6 @@ mod write;
 
 pub use reasons::Explained;
 pub use routes::explain;
-pub use verdict::{Verdict, decide};
+pub use verdict::{Verdict, decide, redirect_in};
 pub use why::Why;
 pub use write::write_explain;

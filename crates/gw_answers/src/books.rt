@@ -1,0 +1,122 @@
+ghost use Rattle.std.specs.Prelude.{◌≡◌, ◌*◌, ◌^◌, ◌<◌, ◌≤◌, ◌⊎◌, [], List, ℕ, map, length, sum, replicate, option_copied, true, IfOk, OnOk, OnErr};
+ghost use Rattle.gw_text.specs.model.Picks.{after_draw, drawn_from};
+ghost use Rattle.gw_answers.specs.model.Decisions.{backend_choice, endpoint_choice, item_at, picked_backend, picked_endpoint};
+
+use gw_rows::{Backend, Row};
+use gw_text::{Key, NoMemory, Socket};
+use gw_weight::Book;
+use std::alloc::Global;
+
+/// The most weights of a pick. No machine holds as many.
+const MOST_WEIGHTS: usize = 4_294_967_295;
+
+/// How often each backend of a rule, and each endpoint of a Service's port, was picked.
+#[derive(Drop)]
+pub struct Books {
+    pub backends: Book,
+    pub endpoints: Book,
+}
+
+impl Books {
+    /// Nothing was picked.
+    pub fn new(alloc: Global) -> Self
+        ensures { result ≡ record { backends = []; endpoints = [] } }
+    {
+        Books {
+            backends: Book::new(alloc),
+            endpoints: Book::new(alloc),
+        }
+    }
+
+    /// Picks the backend that is next.
+    pub(crate) fn pick_backend<'r>(
+        &mut self,
+        alloc: Global,
+        row: &'r Row,
+    ) -> Result<Option<&'r Backend>, NoMemory>
+        ensures pick { IfOk result (λ b. option_copied b ≡ picked_backend row.now self.old) }
+        ensures after { OnOk result (self.new ≡ record self.old { backends = after_draw (backend_choice row.now) self.old.backends }) }
+        ensures err { OnErr result ((self.new ≡ self.old) ⊎ (self.new ≡ record self.old { backends = [] })) }
+    {
+        let backends = row.plan.backends.as_slice();
+        let weights = weights_of(alloc, backends)?;
+        let picked = draw(
+            &mut self.backends,
+            &row.key,
+            u64::from(row.rule),
+            weights.as_slice(),
+        )?;
+        Ok(item_at(backends, picked))
+    }
+
+    /// Picks the endpoint that is next.
+    pub(crate) fn pick_endpoint(
+        &mut self,
+        alloc: Global,
+        backend: &Backend,
+        sockets: &[Socket],
+    ) -> Result<Option<Socket>, NoMemory>
+        ensures pick { IfOk result (λ s. s ≡ picked_endpoint backend.now sockets.now self.old) }
+        ensures after { OnOk result (self.new ≡ record self.old { endpoints = after_draw (endpoint_choice backend.now sockets.now) self.old.endpoints }) }
+        ensures err { OnErr result ((self.new ≡ self.old) ⊎ (self.new ≡ record self.old { endpoints = [] })) }
+    {
+        let weights = vec![in alloc; 1; sockets.len()]?;
+        let picked = draw(
+            &mut self.endpoints,
+            &backend.key,
+            u64::from(backend.port),
+            weights.as_slice(),
+        )?;
+        Ok(item_at(sockets, picked).copied())
+    }
+}
+
+fn weights_of(alloc: Global, backends: &[Backend]) -> Result<Vec<u32>, NoMemory>
+    ensures { IfOk result (λ weights. weights.items ≡ map (λ b. b.weight) backends.now) }
+{
+    let mut weights = Vec::new(alloc);
+    'backends: for backend in backends {
+        weights.push(backend.weight)?;
+    }
+    Ok(weights)
+}
+
+// The next pick. More weights than a machine holds are want of memory.
+fn draw(
+    book: &mut Book,
+    name: &Key,
+    number: u64,
+    weights: &[u32],
+) -> Result<Option<usize>, NoMemory>
+    ensures pick { IfOk result (λ picked. picked ≡ drawn_from (record { name = name.now; number = number; weights = weights.now }) book.old) }
+    ensures after { OnOk result (book.new ≡ after_draw (record { name = name.now; number = number; weights = weights.now }) book.old) }
+    ensures err { OnErr result ((book.new ≡ book.old) ⊎ (book.new ≡ [])) }
+{
+    if !is_counted(weights) {
+        return Err(NoMemory);
+    }
+    book.draw(name, number, weights)
+}
+
+fn is_counted(weights: &[u32]) -> bool
+    ensures { result ≡ true → length weights.now * sum weights.now < 2 ^ 126 }
+{
+    let total = total_of(weights);
+    weights.len() <= MOST_WEIGHTS && total < 1 << 64
+}
+
+fn total_of(weights: &[u32]) -> u128
+    ensures { result ≡ sum weights.now }
+{
+    let mut total = 0;
+    'weights: for weight in weights {
+        total += u128::from(*weight);
+    }
+    total
+}
+
+fn item_at<T: Drop>(items: &[T], place: Option<usize>) -> Option<&T>
+    ensures { option_copied result ≡ item_at items.now place }
+{
+    items.get(place?)
+}
