@@ -84,7 +84,7 @@ fn meeting<'r>(
 }
 
 /// The hostnames for which a listener of this hostname takes requests to a Route of these.
-#[tactic(auto, unfolding(crate::specs::DoorRows::hostnames_for))]
+#[tactic(auto, unfolding(gw_rows::specs::model::DoorRows::hostnames_for))]
 pub fn hostnames_for<'r>(
     alloc: Global,
     listener: &Option<Host>,

@@ -67,7 +67,7 @@ fn push_served(
 }
 
 // The listeners of a programmed Gateway that have these states and are served at the door.
-#[tactic(auto, using(crate::proofs::Rows::states_length), unfolding(crate::specs::DoorRows::served_by))]
+#[tactic(auto, using(crate::proofs::Rows::states_length), unfolding(gw_rows::specs::model::DoorRows::served_by))]
 fn served_among(
     alloc: Global,
     doors: &Doors,
@@ -105,7 +105,7 @@ fn served_by(
 }
 
 /// The served listeners of a door.
-#[tactic(auto, unfolding(crate::specs::DoorRows::served_at))]
+#[tactic(auto, unfolding(gw_rows::specs::model::DoorRows::served_at))]
 pub fn served(
     alloc: Global,
     controller: &Text,
