@@ -2,8 +2,6 @@
 #![tactic(auto)]
 
 #[cfg(test)]
-mod answers;
-#[cfg(test)]
 mod cases;
 #[cfg(test)]
 mod fitting;
@@ -11,5 +9,3 @@ mod fitting;
 mod listeners;
 #[cfg(test)]
 mod precedence;
-#[cfg(test)]
-mod sorted;
