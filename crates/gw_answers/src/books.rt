@@ -4,7 +4,7 @@ ghost use Rattle.gw_answers.specs.model.Decisions.{backend_choice, endpoint_choi
 
 use gw_rows::{Backend, Row};
 use gw_text::{Key, NoMemory, Socket};
-use gw_weight::Book;
+use gw_weight::{Book, sum_of};
 use std::alloc::Global;
 
 /// The most weights of a pick. No machine holds as many.
@@ -101,18 +101,8 @@ fn draw(
 fn is_counted(weights: &[u32]) -> bool
     ensures { result ≡ true → length weights.now * sum weights.now < 2 ^ 126 }
 {
-    let total = total_of(weights);
+    let total = sum_of(weights);
     weights.len() <= MOST_WEIGHTS && total < 1 << 64
-}
-
-fn total_of(weights: &[u32]) -> u128
-    ensures { result ≡ sum weights.now }
-{
-    let mut total = 0;
-    'weights: for weight in weights {
-        total += u128::from(*weight);
-    }
-    total
 }
 
 fn item_at<T: Drop>(items: &[T], place: Option<usize>) -> Option<&T>

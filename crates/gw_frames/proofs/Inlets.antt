@@ -1,11 +1,12 @@
 -- What an inlet stands for after a step.
-use Rattle.std.proofs.Common.{◌≡◌, ℕ, ◌+◌, ◌≤◌, ◌<◌, Bool, true, false, Option, Some, None, Result, Ok, Err, IfOk, List, [], ◌∷◌, ◌++◌, take, drop, refl, sym, ap, ◌∙◌, subst, arith, inl, inr, ◌⊎◌, ◌==◌, if◌then◌else◌, append_assoc}
+use Rattle.std.proofs.Common.{◌≡◌, ℕ, ◌+◌, ◌-◌, ◌*◌, ◌≤◌, ◌<◌, Bool, true, false, Option, Some, None, Result, Ok, Err, IfOk, List, [], ◌∷◌, ◌++◌, take, drop, refl, sym, ap, ◌∙◌, subst, arith, inl, inr, ◌⊎◌, ◌==◌, if◌then◌else◌, append_assoc, cond, count_by}
 use Rattle.std.proofs.lemmas.List.{append-nil}
+use Rattle.std.proofs.lemmas.List.Sums.{sum_by-append}
 use Rattle.gw_messages.specs.model.Bodies.{Body, whole_body, bad_body, part_body, IsBody}
 use Rattle.gw_frames.specs.model.Requests.{Asks, long_head, bad_head, good_head, no_head, no_body, faulty_body, last_body, good_body, a_head, a_body, IsJudged, refused, opened, Opening, Request, Step as Plain, an_ask, a_refusal, an_end, announced, after_no_head, end_behind, ended, ended_after, whole_request}
 use Rattle.gw_messages.proofs.Sections.{long_more, whole_more}
 use Rattle.gw_messages.specs.model.Sections.{IsCut, long_section, part_section, ends_head}
-use Rattle.gw_frames.specs.Inlets.{ended_at, ended_by, Follows, fresh, given, Goes, HasRoomAt, IsAll, IsFuture, IsLast, IsStill, last_step, stage_behind, Still, StillAt, StandsFor, unless_ended, with_step}
+use Rattle.gw_frames.specs.Inlets.{ended_at, ended_by, Follows, fresh, given, Goes, HasRoomAt, IsAll, IsFewer, IsFuture, IsLast, IsStill, is_not_last, last_step, left_at, stage_behind, Still, StillAt, StandsFor, steps_left, unless_ended, with_step}
 use Rattle.gw_messages.specs.Readings.{Comes}
 use Rattle.gw_messages.specs.Searches.{IsFound}
 use Rattle.gw_frames.specs.declared.inlet.Inlet.{Inlet}
@@ -91,6 +92,34 @@ all_given i step bytes steps still stands all =
 pub last_again : (i : Inlet) (step : Step) (bytes : List ℕ) (steps : List Plain) → IsLast (ended_by i.stage) step → StandsFor i bytes steps → IsLast (ended steps) step
 last_again i step bytes steps last stands = subst (λ (e : Option Ended). IsLast e step) (sym (ended_is i bytes steps stands)) last
 
+-- a last step is the last
+pub none_but_last : (last : Ended) → count_by is_not_last (last_step last ∷ []) ≡ 0
+none_but_last (ends.Refused code) = refl
+none_but_last ends.Truncated = refl
+none_but_last ends.Closed = refl
+none_but_last ends.Asked = refl
+none_but_last ends.Enough = refl
+
+-- a step leaves fewer requests and answers 100 to come, or no more
+pub fewer_left : (i j : Inlet) (step : Step) (bytes : List ℕ) (before : List Plain) → Goes i j (fresh i.stage step) → IsLast (ended_by i.stage) step → StandsFor i bytes before → IsFewer step (steps_left j) (steps_left i)
+fewer_left i j step bytes before goes last stands = at_stage i.stage (goes.left stands.room) last
+  where
+    by_step : (s : Step) (m n : ℕ) → count_by is_not_last (given s) + m ≤ n → IsFewer s m n
+    by_step steps.Need m n le = omega arith
+    by_step (steps.Ask r) m n le = omega arith
+    by_step steps.Continue m n le = omega arith
+    by_step (steps.Bad code) m n le = omega arith
+    by_step steps.End m n le = omega arith
+    by_step steps.Truncated m n le = omega arith
+
+    at_stage : (stage : Stage) → count_by is_not_last (fresh stage step) + steps_left j ≤ steps_left i → IsLast (ended_by stage) step → IsFewer step (steps_left j) (steps_left i)
+    at_stage Head le is = by_step step (steps_left j) (steps_left i) le
+    at_stage (Reads o r) le is = by_step step (steps_left j) (steps_left i) le
+    at_stage (Closing why) le is = by_step step (steps_left j) (steps_left i) le
+    at_stage (Done why) le is =
+        let none : count_by is_not_last (given step) ≡ 0 = ap (count_by is_not_last) is ∙ none_but_last why in
+        by_step step (steps_left j) (steps_left i) (omega arith)
+
 -- one after the other
 pub goes_then : (i j k : Inlet) (first second : List Plain) → Goes i j first → Goes j k second → Goes i k (first ++ second)
 goes_then i j k first second a b = record {
@@ -99,6 +128,7 @@ goes_then i j k first second a b = record {
   leads = λ r next over more future still.
       rw append_assoc (a.leads r next over (second ++ more) future (b.leads (a.room r) next over more (subst (λ (o : Bool). IsFuture o next over) (sym a.over) future) still));
   told = λ r more. ap (ended_at i.stage i.count) (append_assoc first second more) ∙ a.told r (second ++ more) ∙ b.told (a.room r) more;
+  left = λ r. omega (arith, a.left r, b.left (a.room r), sum_by-append (λ (s : Plain). cond (is_not_last s) 1 0) first second);
 }
 
 -- a step at a head
@@ -120,7 +150,7 @@ both_ok (Err e) P Q R f p q = tt
 
 -- nothing was done
 pub goes_nowhere : (i : Inlet) → Goes i i []
-goes_nowhere i = record { over = refl; room = λ r. r; leads = λ r next over more future still. still; told = λ r more. refl }
+goes_nowhere i = record { over = refl; room = λ r. r; leads = λ r next over more future still. still; told = λ r more. refl; left = λ r. omega arith }
 
 -- the steps that come at a head
 at_head : (i : Inlet) (next : List ℕ) (over : Bool) (more : List Plain) → i.stage ≡ Head → Asks a_head i.count (i.buffer ++ next) over more → Still i next over more
@@ -137,6 +167,10 @@ goes_to_end i j last given over stage is ends h = record {
       let none : more ≡ [] = subst (λ (s : Stage). StillAt s j.count (j.buffer ++ next) o more) stage still in
       rw (is, none) (h next o future);
   told = λ r more. rw (is, stage) (ends more);
+  left = λ r.
+      let none : count_by is_not_last given ≡ 0 = ap (count_by is_not_last) is ∙ none_but_last last in
+      let ended : steps_left j ≡ 0 = ap (λ (s : Stage). left_at s j.count) stage in
+      omega arith;
 }
 
 -- the last step behind the last request
@@ -196,8 +230,17 @@ goes_to_body i j count o r expects expected head found judged reads over number 
       (good_head (take count i.buffer) (drop count i.buffer ++ next) o more (whole_more ends_head 16384 i.buffer (take count i.buffer) (drop count i.buffer) next found.1) judged
       (follows i.count o (drop count i.buffer ++ next) at.0 ov more (reads (drop count i.buffer ++ next) at.0 body) steps) (ap (λ (b : Bool). announced b ++ more) (sym expected)));
   told = λ room more. rw (head, stage, number) (unheard i.count expects more);
+  left = λ room.
+      let more : i.count < 1000 = subst (λ (s : Stage). HasRoomAt s i.count) head room in
+      let before : steps_left i ≡ 2 * (1000 - i.count) = ap (λ (s : Stage). left_at s i.count) head in
+      let after : steps_left j ≡ 2 * (1000 - j.count) - 1 = ap (λ (s : Stage). left_at s j.count) stage in
+      omega (arith, one expects);
 }
   where
+    one : (b : Bool) → count_by is_not_last (announced b) ≤ 1
+    one true = omega arith
+    one false = omega arith
+
     unheard : (count : ℕ) (b : Bool) (more : List Plain) → ended_after count Closed (announced b ++ more) ≡ ended_after count Closed more
     unheard count true more = refl
     unheard count false more = refl
@@ -234,6 +277,9 @@ goes_to_ask i j o r before content q asked number counts comes over count buffer
       let at = subst (λ (s : Stage). StillAt s j.count (j.buffer ++ next) ov more) stage still in
       (whole_body content (i.buffer ++ next), comes next, (more, ap (λ (x : Request). an_ask x ∷ more) asked, inl (why, rw (← counts room) ends, at ∙ ap (λ (s : Plain). s ∷ []) (end_is number o.request why ends))));
   told = λ room more. rw (stage, count, asked, ← counts room, ends) refl;
+  left = λ room.
+      let after : steps_left j ≡ 0 = ap (λ (s : Stage). left_at s j.count) stage in
+      omega arith;
 }
 goes_to_ask i j o r before content q asked number counts comes over count buffer None ends stage = record {
   over = over;
@@ -244,4 +290,7 @@ goes_to_ask i j o r before content q asked number counts comes over count buffer
       let here = subst (λ (b : List ℕ). Asks a_head (i.count + 1) (b ++ next) ov more) buffer asks in
       (whole_body content (i.buffer ++ next), comes next, (more, ap (λ (x : Request). an_ask x ∷ more) asked, inr (rw (← counts room) ends, here)));
   told = λ room more. rw (stage, count, asked, ← counts room, ends) refl;
+  left = λ room.
+      let after : steps_left j ≡ 2 * (1000 - j.count) = ap (λ (s : Stage). left_at s j.count) stage in
+      omega (arith, counts room);
 }

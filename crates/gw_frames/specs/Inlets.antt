@@ -1,5 +1,5 @@
 -- What an inlet stands for: bytes, whether all have come, and the steps that it gave.
-use Rattle.std.specs.Prelude.{ℕ, ◌+◌, ◌<◌, ◌≡◌, ◌⊎◌, ◌++◌, List, [], ◌∷◌, Bool, true, false, ⊤, Option, Some, None}
+use Rattle.std.specs.Prelude.{ℕ, ◌+◌, ◌-◌, ◌*◌, ◌<◌, ◌≤◌, ◌≡◌, ◌⊎◌, ◌++◌, List, [], ◌∷◌, Bool, true, false, ⊤, Option, Some, None, count_by}
 use Rattle.gw_messages.specs.model.Bodies.{Body, whole_body, bad_body, part_body}
 use Rattle.gw_frames.specs.model.Requests.{Asks, a_head, Step as Plain, an_ask, a_continue, a_refusal, an_end, a_break, Opening, after_no_body, end_behind, ended, ended_after, fault_code, whole_request}
 use Rattle.gw_frames.specs.declared.ended.Ended.{Ended}
@@ -55,6 +55,35 @@ HasRoomAt (Reads o r) count = count < 1000
 HasRoomAt (Closing why) count = ⊤
 HasRoomAt (Done why) count = ⊤
 
+-- How many requests and answers 100 may still come at a stage, behind so many requests: one of each for every further request,
+-- but no answer 100 for a request whose body is read.
+abbrev pub left_at : Stage → ℕ → ℕ
+left_at Head count = 2 * (1000 - count)
+left_at (Reads o r) count = 2 * (1000 - count) - 1
+left_at (Closing why) count = 0
+left_at (Done why) count = 0
+
+-- How many requests and answers 100 an inlet may still give.
+abbrev pub steps_left : Inlet → ℕ
+steps_left i = left_at i.stage i.count
+
+-- A step that isn't the last of a connection: a request, or the answer 100.
+abbrev pub is_not_last : Plain → Bool
+is_not_last (an_ask r) = true
+is_not_last a_continue = true
+is_not_last (a_refusal code) = false
+is_not_last an_end = false
+is_not_last a_break = false
+
+-- A request and the answer 100 leave fewer of them to come, and no other step leaves more.
+abbrev pub IsFewer : Step → ℕ → ℕ → Type 0
+IsFewer steps.Need after before = after ≤ before
+IsFewer (steps.Ask r) after before = after < before
+IsFewer steps.Continue after before = after < before
+IsFewer (steps.Bad code) after before = after ≤ before
+IsFewer steps.End after before = after ≤ before
+IsFewer steps.Truncated after before = after ≤ before
+
 -- How the connection ends with these steps, from a stage on.
 abbrev pub ended_at : Stage → ℕ → List Plain → Option Ended
 ended_at Head count more = ended_after count Closed more
@@ -76,13 +105,14 @@ pub record StandsFor (i : Inlet) (bytes : List ℕ) (steps : List Plain) : Type 
   pub told : (more : List Plain) → ended (steps ++ more) ≡ ended_at i.stage i.count more
 
 -- One inlet becomes another and gives these steps: whatever comes next, they and what the other one gives are what the first one
--- would have given.
+-- would have given, and no more requests and answers 100 than it might give.
 pub record Goes (i j : Inlet) (steps : List Plain) : Type 0 where
   pub over : j.over ≡ i.over
   pub room : HasRoomAt i.stage i.count → HasRoomAt j.stage j.count
   pub leads : HasRoomAt i.stage i.count → (next : List ℕ) (over : Bool) (more : List Plain) → IsFuture i.over next over → Still j next over more
       → Still i next over (steps ++ more)
   pub told : HasRoomAt i.stage i.count → (more : List Plain) → ended_at i.stage i.count (steps ++ more) ≡ ended_at j.stage j.count more
+  pub left : HasRoomAt i.stage i.count → count_by is_not_last steps + steps_left j ≤ steps_left i
 
 -- The steps that were given: a last step is given once.
 abbrev pub fresh : Stage → Step → List Plain

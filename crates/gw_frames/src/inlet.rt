@@ -1,4 +1,4 @@
-ghost use Rattle.std.specs.Prelude.{◌≡◌, ◌≢◌, take, ℕ, [], ◌∷◌, ◌++◌, true, false, List, Ok, None, OnOk, OnErr, IfOk, IfSome};
+ghost use Rattle.std.specs.Prelude.{◌≡◌, ◌≢◌, ◌≤◌, take, ℕ, [], ◌∷◌, ◌++◌, true, false, List, Ok, None, OnOk, OnErr, IfOk, IfSome};
 ghost use Rattle.gw_frames.specs.model.Requests.{a_head, Asks, end_behind, ended, Step as Plain};
 
 use crate::ended::Ended;
@@ -46,7 +46,7 @@ enum Stage {
 }
 
 impl Inlet {
-    ghost use Rattle.gw_frames.specs.Inlets.{ended_by, fresh, given, given_some, Goes, is_over, IsAll, IsLast, IsReads, IsStill, last_step, stage_behind, StandsFor, with_step};
+    ghost use Rattle.gw_frames.specs.Inlets.{ended_by, fresh, given, given_some, Goes, is_over, IsAll, IsFewer, IsLast, IsReads, IsStill, last_step, stage_behind, StandsFor, steps_left, with_step};
     ghost use Rattle.gw_frames.specs.declared.step.Step.{Step as Stepped};
     ghost use Rattle.gw_messages.specs.Readings.{Comes, IsProgress, Leads};
     ghost use Rattle.gw_messages.specs.Searches.{IsFound};
@@ -59,6 +59,7 @@ impl Inlet {
     pub fn new(alloc: Global) -> Inlet
         ensures stands { StandsFor result [] [] }
         ensures open { is_over result ≡ false }
+        ensures left { steps_left result ≡ 2000 }
     {
         Inlet {
             alloc,
@@ -75,6 +76,7 @@ impl Inlet {
         ensures fed { OnOk result ((bytes : List ℕ) (steps : List Plain) → StandsFor self.old bytes steps → StandsFor self.new (bytes ++ piece.now) steps) }
         ensures err { OnErr result ((bytes : List ℕ) (steps : List Plain) → StandsFor self.old bytes steps → StandsFor self.new bytes steps) }
         ensures over { is_over self.new ≡ false }
+        ensures left { steps_left self.new ≡ steps_left self.old }
     {
         self.buffer.feed(piece)
     }
@@ -83,11 +85,12 @@ impl Inlet {
     pub fn finish(&mut self)
         ensures stands { (bytes : List ℕ) (steps : List Plain) → StandsFor self.old bytes steps → StandsFor self.new bytes steps }
         ensures over { is_over self.new ≡ true }
+        ensures left { steps_left self.new ≡ steps_left self.old }
     {
         self.over = true;
     }
 
-    /// The next step. After Bad, End and Truncated it stays.
+    /// The next step. After Bad, End and Truncated it stays. Before them at most 2,000 requests and answers 100 come.
     pub fn next(&mut self) -> Result<Step, NoMemory>
         ensures stands { IfOk result (λ step. (bytes : List ℕ) (steps : List Plain) → StandsFor self.old bytes steps
             → StandsFor self.new bytes (with_step steps step)) }
@@ -96,6 +99,9 @@ impl Inlet {
         ensures stays { IfOk result (λ step. (bytes : List ℕ) (steps : List Plain) → StandsFor self.old bytes steps → IsLast (ended steps) step) }
         ensures err { OnErr result ((bytes : List ℕ) (steps : List Plain) → StandsFor self.old bytes steps → StandsFor self.new bytes steps) }
         ensures over { is_over self.new ≡ is_over self.old }
+        ensures fewer { IfOk result (λ step. (bytes : List ℕ) (steps : List Plain) → StandsFor self.old bytes steps
+            → IsFewer step (steps_left self.new) (steps_left self.old)) }
+        ensures no_more { OnErr result ((bytes : List ℕ) (steps : List Plain) → StandsFor self.old bytes steps → steps_left self.new ≤ steps_left self.old) }
     {
         if self.waits() {
             return Ok(Step::Need);

@@ -1,6 +1,5 @@
 ghost use Rattle.std.specs.Prelude.{◌≡◌, ℕ, ◌+◌, ◌^◌, ◌<◌, ◌≤◌, List, [], ◌∷◌, ◌++◌, true, Some, None, length, take, drop, min, vec_len, IfOk, OnOk, OnErr, IsErr, IsTrue, is_ok, is_some, false, Bool, if◌then◌else◌, option_copied, unwrap_or};
 ghost use Rattle.gw_text.specs.model.Addresses.{Socket as Address};
-ghost use Rattle.gw_text.specs.model.Doors.{same_socket};
 ghost use Rattle.gw_link.specs.Exchanges.{change_last, receiving};
 ghost use Rattle.gw_link.specs.Memory.{first_call};
 ghost use Rattle.gw_link.specs.Upstreams.{UpstreamState, same_call, fails_after, fails_at, own_answer, answer_after, answer_at, is_failing_to, next_piece, after_connect, after_send, after_receive, after_close, Becomes};
@@ -266,12 +265,6 @@ impl Upstream for MemUpstream {
     ghost becomes_then = { becomes_more };
 }
 
-fn same_socket(a: Socket, b: Socket) -> bool
-    ensures { result ≡ same_socket a b }
-{
-    a.a == b.a && a.b == b.b && a.c == b.c && a.d == b.d && a.port == b.port
-}
-
 fn same_call(a: UpstreamCall, b: UpstreamCall) -> bool
     ensures { result ≡ same_call a b }
 {
@@ -288,8 +281,8 @@ fn fails_after(call: UpstreamCall, to: Socket, fails: bool, order: &Order) -> bo
     ensures { result ≡ fails_after call to fails order.now }
 {
     match order {
-        Order::Answers(at, _) => fails && !same_socket(*at, to),
-        Order::Fails(at, other) => fails || (same_socket(*at, to) && same_call(*other, call)),
+        Order::Answers(at, _) => fails && !at.same_socket(&to),
+        Order::Fails(at, other) => fails || (at.same_socket(&to) && same_call(*other, call)),
     }
 }
 
@@ -320,7 +313,7 @@ fn answer_after<'a>(to: Socket, answer: Option<&'a [u8]>, order: &'a Order) -> O
 {
     match order {
         Order::Answers(at, bytes) => {
-            if same_socket(*at, to) {
+            if at.same_socket(&to) {
                 return Some(bytes.as_slice());
             }
             answer

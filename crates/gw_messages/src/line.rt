@@ -1,9 +1,9 @@
-ghost use Rattle.std.specs.Prelude.{◌≡◌, ◌==◌, true, take};
+ghost use Rattle.std.specs.Prelude.{◌≡◌, ◌==◌, true, length, take};
 ghost use Rattle.std.specs.List.{list_all, list_any};
 ghost use Rattle.httparse.specs.Grammar.{is_ows};
 ghost use Rattle.gw_messages.specs.model.Bodies.{IsLine, part_line};
 ghost use Rattle.gw_messages.specs.Chunks.{IsLineWithin, seen_line};
-ghost use Rattle.gw_messages.specs.Lines.{continues, Continues, IsLineSearch};
+ghost use Rattle.gw_messages.specs.Lines.{continues, Continues, IsLineSearch, IsResumable};
 
 use crate::bytes::first;
 use crate::chunk::{Line, MOST_LINE, read_line};
@@ -35,6 +35,7 @@ impl LineSearch {
         ensures line { IsLine (take most bytes.now) (seen_line (take most bytes.now) result) }
         ensures within { IsLineWithin (take most bytes.now) result }
         ensures kept { IsLineSearch self.new bytes.now }
+        ensures further { result ≡ Line.Part → IsResumable (take most bytes.now) → self.new.seen ≡ length (take most bytes.now) }
     {
         let front = first(bytes, most);
         if self.goes_on(front) {
@@ -61,7 +62,8 @@ impl LineSearch {
     // Notes how far a line came that isn't whole.
     fn note(&mut self, front: &[u8])
         requires { IsLine front.now part_line }
-        ensures { IsLineSearch self.new front.now }
+        ensures kept { IsLineSearch self.new front.now }
+        ensures further { IsResumable front.now → self.new.seen ≡ length front.now }
     {
         self.seen = 0;
         self.extended = has_byte(front, b';');

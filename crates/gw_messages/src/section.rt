@@ -1,4 +1,4 @@
-ghost use Rattle.std.specs.Prelude.{◌≡◌, ℕ, ◌+◌, ◌<◌, List, Bool, true, min, length};
+ghost use Rattle.std.specs.Prelude.{◌≡◌, ℕ, ◌+◌, ◌<◌, ◌≤◌, List, Bool, true, min, length};
 ghost use Rattle.gw_messages.specs.model.Sections.{are_empty_lines, ends_head, ends_trailers, ends_with_empty_line, is_empty_line, NoneBelow};
 ghost use Rattle.gw_messages.specs.Searches.{IsBlank, IsFound, IsHeadSearch, IsNextEnd, IsTrailersSearch};
 
@@ -40,6 +40,9 @@ impl Search {
         requires { IsHeadSearch self.old bytes.now }
         ensures found { IsFound ends_head bytes.now result }
         ensures kept { IsHeadSearch self.new bytes.now }
+        ensures further { self.old.seen ≤ self.new.seen }
+        ensures blank { self.old.blank ≤ self.new.blank }
+        ensures all { result ≡ Found.Part → self.new.seen ≡ length bytes.now }
     {
         let stop = bytes.len().min(MOST_SECTION);
         'lines: while self.seen < stop {
@@ -59,6 +62,7 @@ impl Search {
         ensures kept { IsBlank self.new front.now }
         ensures seen { self.new.seen ≡ self.old.seen }
         ensures same { result ≡ true → self.new.blank ≡ self.old.blank }
+        ensures further { self.old.blank ≤ self.new.blank }
     {
         if !ends_with_empty_line(front) {
             return false;
@@ -75,6 +79,9 @@ impl Search {
         requires { IsTrailersSearch self.old bytes.now }
         ensures found { IsFound ends_trailers bytes.now result }
         ensures kept { IsTrailersSearch self.new bytes.now }
+        ensures further { self.old.seen ≤ self.new.seen }
+        ensures blank { self.new.blank ≡ self.old.blank }
+        ensures all { result ≡ Found.Part → self.new.seen ≡ length bytes.now }
     {
         let stop = bytes.len().min(MOST_SECTION);
         'lines: while self.seen < stop {

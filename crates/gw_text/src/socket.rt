@@ -78,7 +78,7 @@ impl Socket {
     }
 
     /// Whether both have the same address and port.
-    pub(crate) fn same_socket(&self, other: &Socket) -> bool
+    pub fn same_socket(&self, other: &Socket) -> bool
         ensures { result ≡ doors.same_socket self.now other.now }
     {
         self.same_address(other) && self.port == other.port

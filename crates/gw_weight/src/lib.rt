@@ -8,4 +8,4 @@ mod shares;
 
 pub use book::Book;
 pub use rounds::first_picks;
-pub use shares::Shares;
+pub use shares::{Shares, sum_of};

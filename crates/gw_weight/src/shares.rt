@@ -104,7 +104,8 @@ fn return_to_zero(numbers: &mut [u32])
     }
 }
 
-fn sum_of(weights: &[u32]) -> u128
+/// The sum of the weights.
+pub fn sum_of(weights: &[u32]) -> u128
     ensures value { result ≡ sum weights.now }
     ensures small { result ≤ length weights.now * u32.MAX }
 {

@@ -6,8 +6,8 @@ use Rattle.gw_messages.proofs.LineSearches.{either, noted}
 use Rattle.gw_messages.proofs.line.LineSearch.note.Goals.{then-self, else-self}
 use Rattle.gw_messages.proofs.line.LineSearch.note.Goals as goal
 
-pub returns-then-has_blank : goal.returns-then-has_blank
-returns-then-has_blank c =
+pub returns-then-has_blank-clause-kept : goal.returns-then-has_blank-clause-kept
+returns-then-has_blank-clause-kept c =
     let some : (c.has_byte-self.result || list_any is_ows c.args.front.now) ≡ true =
     elim c.if-self.branch [
       | then-self w ↦ rw w.if-self.true refl

@@ -15,4 +15,4 @@ returns-then-goes_on-clause-kept c =
 
 pub returns-in-Part-clause-kept : goal.returns-in-Part-clause-kept
 returns-in-Part-clause-kept c =
-    wider_search c.note.new.self c.args.bytes.now c.args.most (subst (λ (b : List ℕ). IsLineSearch c.note.new.self b) c.first-front.ensures c.note.ensures)
+    wider_search c.note.new.self c.args.bytes.now c.args.most (subst (λ (b : List ℕ). IsLineSearch c.note.new.self b) c.first-front.ensures c.note.ensures.kept)

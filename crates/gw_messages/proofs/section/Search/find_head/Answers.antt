@@ -8,7 +8,7 @@ use Rattle.gw_messages.proofs.section.Search.find_head.Goals as goal
 
 pub returns-then-ends_head-clause-found : goal.returns-then-ends_head-clause-found
 returns-then-ends_head-clause-found c =
-    found_end ends_head c.args.bytes.now c.lines.self.seen c.line_end-end.result no_head c.lines.invariant.search.none c.line_end-end.ensures (sym c.ends_head.ensures.value ∙ c.if-ends_head.true)
+    found_end ends_head c.args.bytes.now c.lines.self.seen c.line_end-end.result no_head c.lines.invariant.search.search.none c.line_end-end.ensures (sym c.ends_head.ensures.value ∙ c.if-ends_head.true)
 
 pub lines-preserved : goal.lines-preserved
 lines-preserved c =
@@ -16,7 +16,11 @@ lines-preserved c =
     let long : length (take end c.args.bytes.now) ≡ end = length-take-le end c.args.bytes.now c.line_end-end.ensures.within in
     let before : c.ends_head.new.self.blank ≤ end = omega (arith, c.ends_head.ensures.kept.within, long) in
     record {
-      search = none_through ends_head c.lines.self _ c.args.bytes.now no_head c.lines.invariant.search c.line_end-end.ensures (sym c.ends_head.ensures.value ∙ c.if-ends_head.false);
-      before = before;
-      blank = known_before c.ends_head.new.self.blank end c.args.bytes.now before c.ends_head.ensures.kept.blank;
+      search = record {
+        search = none_through ends_head c.lines.self _ c.args.bytes.now no_head c.lines.invariant.search.search c.line_end-end.ensures (sym c.ends_head.ensures.value ∙ c.if-ends_head.false);
+        before = before;
+        blank = known_before c.ends_head.new.self.blank end c.args.bytes.now before c.ends_head.ensures.kept.blank;
+      };
+      further = omega arith;
+      blank = omega arith;
     }
