@@ -323,8 +323,8 @@ impl Stage {
     }
 }
 
-// Why the connection ends behind the request of this number, if it does.
-fn end_behind(number: usize, request: &Request) -> Option<Ended>
+/// Why the connection ends behind the request of this number, from 1 on, if it does.
+pub fn end_behind(number: usize, request: &Request) -> Option<Ended>
     ensures { result ≡ end_behind number request.now }
 {
     if request.close {

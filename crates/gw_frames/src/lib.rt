@@ -14,6 +14,6 @@ mod step;
 mod target;
 
 pub use ended::Ended;
-pub use inlet::Inlet;
+pub use inlet::{Inlet, end_behind};
 pub use request::Request;
 pub use step::Step;
