@@ -1,5 +1,6 @@
 pub mod BodyLaws
 pub mod Cuts
+pub mod Limits
 pub mod RequestLaws
 pub mod ResponseLaws
 pub mod TargetLaws

@@ -1,4 +1,4 @@
-//! Laws of what the bytes of messages come to: one answer only.
+//! Laws of what the bytes of messages come to: one answer only, and an end behind so many bytes.
 #![tactic(auto)]
 
 mod bodies;
@@ -6,5 +6,5 @@ mod requests;
 mod responses;
 
 pub use bodies::one_body;
-pub use requests::one_list_of_steps;
+pub use requests::{MOST_OPEN_BYTES, most_bytes_of_an_open_connection, one_list_of_steps};
 pub use responses::one_outcome;
