@@ -1,0 +1,10 @@
+mod Counts
+mod Deciding
+mod Ends
+mod Going
+mod Parts
+mod Serving
+mod Stepping
+mod Exchanging
+mod Turning
+mod Linking

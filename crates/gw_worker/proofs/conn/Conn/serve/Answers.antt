@@ -1,0 +1,80 @@
+-- One turn more.
+use Rattle.std.proofs.Common.{◌≡◌, ℕ, List, ◌++◌, Some, Ok, ap, refl, rules, ◌∙◌, arith}
+use Rattle.gw_answers.proofs.Left.{on_err}
+use Rattle.gw_worker.proofs.Deciding.{begins_itself}
+use Rattle.gw_worker.proofs.Going.{begins_then, served_then, still_at, took_and_broke, took_then}
+use Rattle.gw_worker.proofs.Stepping.{fed_on, goes_itself, goes_then}
+use Rattle.gw_worker.proofs.Turning.{took_none}
+use Rattle.gw_worker.specs.Conns.{StandsFor}
+use Rattle.gw_worker.specs.Flows.{BrokeOff, Outside, outside}
+use Rattle.gw_worker.specs.Workers.{IsAt}
+use Rattle.gw_worker.specs.declared.take.Flow.TheVariants as flows
+use Rattle.gw_worker.specs.model.Sessions.{Part, Place}
+use Rattle.gw_worker.proofs.conn.Conn.serve.Goals as goal
+
+pub turns-init : goal.turns-init
+turns-init g c = record {
+  took = λ p bytes parts text at s. took_none p c.args.w.now c.args.self.now bytes parts text _ s;
+  settled = c.requires.settled;
+  inlet = goes_itself c.args.self.now.inlet c.args.self.now.inlet refl;
+  over = refl;
+  unread = search rules;
+  link_later = omega arith;
+  up_later = omega arith;
+  becomes = g.met.U.Upstream.becomes_self _;
+  later = begins_itself _;
+  fixed = refl;
+  door = refl;
+}
+
+pub returns-in_err-flow-clause-broke : goal.returns-in_err-flow-clause-broke
+returns-in_err-flow-clause-broke g c =
+    let o : Outside = outside (g.K.Link.written c.args.link.now) (g.U.Upstream.exchanges c.args.up.now) (g.U.Upstream.faults c.args.up.now) in
+    let o' : Outside = outside (g.K.Link.written c.turn.new.link) (g.U.Upstream.exchanges c.turn.new.up) (g.U.Upstream.faults c.turn.new.up) in
+    let broke : (p : Place) (bytes : List ℕ) (parts : List Part) (text : List ℕ) → IsAt c.args.w.now p → StandsFor c.args.self.now p bytes parts text
+    → BrokeOff p c.args.w.now c.turn.new.w c.turn.new.self bytes parts text o o' = λ p bytes parts text at s.
+    let t = c.turns.invariant.took p bytes parts text at s in
+    took_and_broke p c.args.w.now c.turns.w c.turn.new.w c.turns.self c.turn.new.self bytes bytes parts text o _ o' t
+    (c.in_err-flow.ensures.broke p bytes (parts ++ t.more) (text ++ t.wrote) (still_at p c.args.w.now c.turns.w c.turns.invariant.fixed at) t.stands) in
+    on_err _ broke
+
+pub returns-in_err-flow-clause-inlet : goal.returns-in_err-flow-clause-inlet
+returns-in_err-flow-clause-inlet g c = goes_then c.args.self.now.inlet c.turns.self.inlet c.turn.new.self.inlet c.turns.invariant.inlet c.turn.ensures.inlet
+
+pub returns-in-Some-clause-served : goal.returns-in-Some-clause-served
+returns-in-Some-clause-served g c = λ p bytes parts text at s.
+    let t = c.turns.invariant.took p bytes parts text at s in
+    served_then p c.args.w.now c.turns.w c.turn.new.w c.turns.self c.turn.new.self bytes bytes _ parts text _ _ _ c.in-Some.flow t
+    (rw c.in-Some.is at (c.in_ok-flow.ensures.took p bytes (parts ++ t.more) (text ++ t.wrote) (still_at p c.args.w.now c.turns.w c.turns.invariant.fixed at) t.stands))
+
+pub returns-in-Some-clause-unfinished : goal.returns-in-Some-clause-unfinished
+returns-in-Some-clause-unfinished g c = λ is bytes fed.
+    let more : c.in-Some.flow ≡ flows.More = cc is in
+    c.in_ok-flow.ensures.unfinished (ap Ok (c.in-Some.is ∙ ap Some more)) bytes
+    (fed_on c.args.self.now c.turns.self bytes c.turns.invariant.inlet fed)
+
+pub returns-in-Some-clause-inlet : goal.returns-in-Some-clause-inlet
+returns-in-Some-clause-inlet g c = goes_then c.args.self.now.inlet c.turns.self.inlet c.turn.new.self.inlet c.turns.invariant.inlet c.turn.ensures.inlet
+
+pub turns-smaller : goal.turns-smaller
+turns-smaller g c =
+    c.in_ok-flow.ensures.fewer (ap Ok c.in_default.is) c.requires.fed.0
+    (fed_on c.args.self.now c.turns.self c.requires.fed.0 c.turns.invariant.inlet c.requires.fed.1)
+
+pub turns-preserved : goal.turns-preserved
+turns-preserved g c = record {
+  took = λ p bytes parts text at s.
+      let t = c.turns.invariant.took p bytes parts text at s in
+      let u = c.in_ok-flow.ensures.took p bytes (parts ++ t.more) (text ++ t.wrote) (still_at p c.args.w.now c.turns.w c.turns.invariant.fixed at) t.stands in
+      took_then p c.args.w.now c.turns.w c.turn.new.w c.turns.self c.turn.new.self bytes bytes parts text _ _ _ t u.took;
+  settled = c.in_ok-flow.ensures.settled;
+  inlet = goes_then c.args.self.now.inlet c.turns.self.inlet c.turn.new.self.inlet c.turns.invariant.inlet c.turn.ensures.inlet;
+  over = c.turn.ensures.over ∙ c.turns.invariant.over;
+  unread = search rules;
+  link_later = omega (arith, c.turns.invariant.link_later, c.turn.ensures.link_later);
+  up_later = omega (arith, c.turns.invariant.up_later, c.turn.ensures.up_later);
+  becomes = g.met.U.Upstream.becomes_then _ _ _ c.turns.invariant.becomes c.turn.ensures.becomes;
+  later = begins_then _ _ _ c.turns.invariant.later c.turn.ensures.later;
+  fixed = c.turn.ensures.fixed ∙ c.turns.invariant.fixed;
+  door = c.turn.ensures.door ∙ c.turns.invariant.door;
+}

@@ -1,0 +1,31 @@
+-- The connection went on so far.
+use Rattle.std.proofs.Common.{◌≡◌, ◌≤◌, ℕ, List}
+use Rattle.gw_frames.specs.Inlets.{is_over}
+use Rattle.gw_link.specs.Pieces.{Keeps}
+use Rattle.gw_snap.specs.Lists.{BeginsWith}
+use Rattle.gw_worker.specs.Conns.{GoesOn, IsSettled, StandsFor, turns_left}
+use Rattle.gw_worker.specs.Flows.{Took, outside}
+use Rattle.gw_worker.specs.Workers.{IsAt}
+use Rattle.gw_worker.specs.model.Sessions.{Part, Place}
+use Rattle.gw_worker.proofs.conn.Conn.serve.Given as goal
+
+abbrev pub invariant-turns : goal.invariant-turns
+invariant-turns g l = record {
+  took : (p : Place) (bytes : List ℕ) (parts : List Part) (text : List ℕ) → IsAt l.fn.w p → StandsFor l.fn.self p bytes parts text
+      → Took p l.fn.w l.w l.self bytes parts text
+      (outside (g.K.Link.written l.fn.link) (g.U.Upstream.exchanges l.fn.up) (g.U.Upstream.faults l.fn.up))
+      (outside (g.K.Link.written l.link) (g.U.Upstream.exchanges l.up) (g.U.Upstream.faults l.up));
+  settled : IsSettled l.self.stage;
+  inlet : GoesOn l.fn.self.inlet l.self.inlet;
+  over : is_over l.self.inlet ≡ is_over l.fn.self.inlet;
+  unread : Keeps (g.K.Link.left l.fn.link) (g.K.Link.left l.link);
+  link_later : g.K.Link.faults l.fn.link ≤ g.K.Link.faults l.link;
+  up_later : g.U.Upstream.faults l.fn.up ≤ g.U.Upstream.faults l.up;
+  becomes : g.U.Upstream.becomes l.fn.up l.up;
+  later : BeginsWith l.fn.w.pass.seen l.w.pass.seen;
+  fixed : l.w.pass.fixed ≡ l.fn.w.pass.fixed;
+  door : l.self.door ≡ l.fn.self.door;
+}
+
+abbrev pub decreases-turns : goal.decreases-turns
+decreases-turns g l = turns_left l.self

@@ -1,0 +1,99 @@
+-- What each turn makes of the connection.
+use Rattle.std.proofs.Common.{ℕ, List, [], ◌++◌, None, Ok, arith, ap, refl, sym, subst}
+use Rattle.gw_answers.proofs.Left.{on_err}
+use Rattle.gw_frames.specs.Inlets.{is_over}
+use Rattle.gw_link.proofs.PieceLemmas.{Takes-nothing}
+use Rattle.gw_worker.proofs.Stepping.{fed_on, goes_itself, goes_then}
+use Rattle.gw_worker.proofs.Turning.{broke_asked, broke_before, broke_reply, broke_write, tells_itself, took_end, took_exchange, took_need, took_write}
+use Rattle.gw_worker.specs.Conns.{StandsFor}
+use Rattle.gw_worker.specs.Flows.{BrokeOff, Outside, TookTo, outside}
+use Rattle.gw_worker.specs.Workers.{IsAt}
+use Rattle.gw_worker.specs.declared.worker.Worker.{Worker}
+use Rattle.gw_worker.specs.model.Sessions.{Part, Place}
+use Rattle.gw_worker.proofs.conn.Conn.turn.Goals as goal
+
+pub returns-in_err-next-clause-broke : goal.returns-in_err-next-clause-broke
+returns-in_err-next-clause-broke g c =
+    let o : Outside = outside (g.K.Link.written c.args.link.now) (g.U.Upstream.exchanges c.args.up.now) (g.U.Upstream.faults c.args.up.now) in
+    let broke : (p : Place) (bytes : List ℕ) (parts : List Part) (text : List ℕ) → IsAt c.args.w.now p → StandsFor c.args.self.now p bytes parts text
+    → BrokeOff p c.args.w.now c.next.new.w c.next.new.self bytes parts text o o = λ p bytes parts text at s.
+    broke_before p c.args.w.now c.next.new.w c.args.self.now c.next.new.self bytes parts text o.written o.written o.exchanges o.exchanges o.faults o.faults s c.requires.settled
+    c.in_err-next.ensures.rows c.in_err-next.ensures.inlet (c.in_err-next.ensures.err p at (sym s.door)) (Takes-nothing o.written) ([], tells_itself o.exchanges) (omega arith) in
+    on_err _ broke
+
+pub returns-in_err-write-in-Write-clause-broke : goal.returns-in_err-write-in-Write-clause-broke
+returns-in_err-write-in-Write-clause-broke g c =
+    let o : Outside = outside (g.K.Link.written c.args.link.now) (g.U.Upstream.exchanges c.args.up.now) (g.U.Upstream.faults c.args.up.now) in
+    let o' : Outside = outside (g.K.Link.written c.write.new.link) (g.U.Upstream.exchanges c.args.up.now) (g.U.Upstream.faults c.args.up.now) in
+    let broke : (p : Place) (bytes : List ℕ) (parts : List Part) (text : List ℕ) → IsAt c.args.w.now p → StandsFor c.args.self.now p bytes parts text
+    → BrokeOff p c.args.w.now c.next.new.w c.next.new.self bytes parts text o o' = λ p bytes parts text at s.
+    broke_write p c.args.w.now c.next.new.w c.next.new.self bytes parts text c.in-Write.text o.written o'.written o.exchanges o.faults
+    (rw c.in-Write.is at (c.in_ok-next.ensures.goes p bytes parts text at s)) (rw c.in-Write.is at c.in_ok-next.ensures.behind) c.in_err-write-in-Write.ensures.err in
+    on_err _ broke
+
+pub returns-in_err-answer-in-Exchange-clause-broke : goal.returns-in_err-answer-in-Exchange-clause-broke
+returns-in_err-answer-in-Exchange-clause-broke g c =
+    let o : Outside = outside (g.K.Link.written c.args.link.now) (g.U.Upstream.exchanges c.args.up.now) (g.U.Upstream.faults c.args.up.now) in
+    let o' : Outside = outside (g.K.Link.written c.args.link.now) (g.U.Upstream.exchanges c.ask.new.up) (g.U.Upstream.faults c.ask.new.up) in
+    let broke : (p : Place) (bytes : List ℕ) (parts : List Part) (text : List ℕ) → IsAt c.args.w.now p → StandsFor c.args.self.now p bytes parts text
+    → BrokeOff p c.args.w.now c.next.new.w c.next.new.self bytes parts text o o' = λ p bytes parts text at s.
+    broke_asked p c.args.w.now c.next.new.w c.args.self.now c.next.new.self c.next.new.self bytes parts text c.in-Exchange.to c.in-Exchange.bytes c.in-Exchange.head
+    o.written o'.written o.exchanges o'.exchanges o.faults o'.faults s c.requires.settled
+    (rw c.in-Exchange.is at (c.in_ok-next.ensures.goes p bytes parts text at s)) (rw c.in-Exchange.is at c.in_ok-next.ensures.behind) refl (goes_itself _ _ refl) (Takes-nothing o.written)
+    c.in_err-answer-in-Exchange.ensures.broke c.ask.ensures.later in
+    on_err _ broke
+
+pub returns-in_err-reply_with-in-Exchange-clause-broke : goal.returns-in_err-reply_with-in-Exchange-clause-broke
+returns-in_err-reply_with-in-Exchange-clause-broke g c =
+    let o : Outside = outside (g.K.Link.written c.args.link.now) (g.U.Upstream.exchanges c.args.up.now) (g.U.Upstream.faults c.args.up.now) in
+    let o' : Outside = outside (g.K.Link.written c.reply_with.new.link) (g.U.Upstream.exchanges c.ask.new.up) (g.U.Upstream.faults c.ask.new.up) in
+    let broke : (p : Place) (bytes : List ℕ) (parts : List Part) (text : List ℕ) → IsAt c.args.w.now p → StandsFor c.args.self.now p bytes parts text
+    → BrokeOff p c.args.w.now c.reply_with.new.w c.reply_with.new.self bytes parts text o o' = λ p bytes parts text at s.
+    let k = rw c.in-Exchange.is at (c.in_ok-next.ensures.goes p bytes parts text at s) in
+    subst (λ (w : Worker). BrokeOff p c.args.w.now w c.reply_with.new.self bytes parts text o o') (sym c.reply_with.ensures.worker)
+    (broke_reply p c.args.w.now c.next.new.w c.args.self.now c.next.new.self c.reply_with.new.self bytes parts text c.in-Exchange.to c.in-Exchange.bytes c.in-Exchange.head
+    c.in_ok-answer-in-Exchange.answer o.written o'.written o.exchanges o'.exchanges o.faults o'.faults s c.requires.settled
+    k (rw c.in-Exchange.is at c.in_ok-next.ensures.behind) c.in_ok-answer-in-Exchange.ensures.met c.ask.ensures.later c.reply_with.ensures.inlet
+    (c.in_err-reply_with-in-Exchange.ensures.broke p bytes (parts ++ k.more) (text ++ []) k.stands)) in
+    on_err _ broke
+
+pub returns-in_err-reply_with-in-Exchange-clause-inlet : goal.returns-in_err-reply_with-in-Exchange-clause-inlet
+returns-in_err-reply_with-in-Exchange-clause-inlet g c = goes_then c.args.self.now.inlet c.next.new.self.inlet c.reply_with.new.self.inlet c.next.ensures.inlet c.reply_with.ensures.inlet
+
+pub returns-in-Need-clause-took : goal.returns-in-Need-clause-took
+returns-in-Need-clause-took g c = λ p bytes parts text at s.
+    took_need p c.args.w.now c.next.new.w c.next.new.self bytes parts text _ (rw c.in-Need.is at (c.in_ok-next.ensures.goes p bytes parts text at s))
+
+pub returns-in-Need-clause-unfinished : goal.returns-in-Need-clause-unfinished
+returns-in-Need-clause-unfinished g c = λ is bytes fed. c.in_ok-next.ensures.unfinished (ap Ok c.in-Need.is) bytes fed
+
+pub returns-in-Ended-clause-took : goal.returns-in-Ended-clause-took
+returns-in-Ended-clause-took g c = λ p bytes parts text at s.
+    took_end p c.args.w.now c.next.new.w c.next.new.self bytes parts text c.in-Ended.why _ (rw c.in-Ended.is at (c.in_ok-next.ensures.goes p bytes parts text at s))
+
+pub returns-in_ok-write-in-Write-clause-took : goal.returns-in_ok-write-in-Write-clause-took
+returns-in_ok-write-in-Write-clause-took g c = λ p bytes parts text at s.
+    took_write p c.args.w.now c.next.new.w c.next.new.self bytes parts text c.in-Write.text _ _ _ _
+    (rw c.in-Write.is at (c.in_ok-next.ensures.goes p bytes parts text at s)) c.in_ok-write-in-Write.ensures.ok
+
+pub returns-in_ok-write-in-Write-clause-fewer : goal.returns-in_ok-write-in-Write-clause-fewer
+returns-in_ok-write-in-Write-clause-fewer g c = λ is bytes fed. rw c.in-Write.is at (c.in_ok-next.ensures.fewer bytes fed)
+
+pub returns-in_ok-reply_with-in-Exchange-clause-took : goal.returns-in_ok-reply_with-in-Exchange-clause-took
+returns-in_ok-reply_with-in-Exchange-clause-took g c = λ p bytes parts text at s.
+    let k = rw c.in-Exchange.is at (c.in_ok-next.ensures.goes p bytes parts text at s) in
+    let o : Outside = outside (g.K.Link.written c.args.link.now) (g.U.Upstream.exchanges c.args.up.now) (g.U.Upstream.faults c.args.up.now) in
+    let o' : Outside = outside (g.K.Link.written c.reply_with.new.link) (g.U.Upstream.exchanges c.ask.new.up) (g.U.Upstream.faults c.ask.new.up) in
+    subst (λ (w : Worker). TookTo p c.args.w.now w c.reply_with.new.self bytes (is_over c.reply_with.new.self.inlet) parts text o o' None) (sym c.reply_with.ensures.worker)
+    (took_exchange p c.args.w.now c.next.new.w c.next.new.self c.reply_with.new.self bytes parts text c.in-Exchange.to c.in-Exchange.bytes c.in-Exchange.head
+    c.in_ok-answer-in-Exchange.answer o.written o'.written o.exchanges o'.exchanges o.faults o'.faults k c.in_ok-answer-in-Exchange.ensures.met c.ask.ensures.later
+    (c.in_ok-reply_with-in-Exchange.ensures.replied p bytes (parts ++ k.more) (text ++ []) k.stands))
+
+pub returns-in_ok-reply_with-in-Exchange-clause-fewer : goal.returns-in_ok-reply_with-in-Exchange-clause-fewer
+returns-in_ok-reply_with-in-Exchange-clause-fewer g c = λ is bytes fed.
+    let first = rw c.in-Exchange.is at (c.in_ok-next.ensures.fewer bytes fed) in
+    let second = c.in_ok-reply_with-in-Exchange.ensures.fewer bytes (fed_on c.args.self.now c.next.new.self bytes c.next.ensures.inlet fed) in
+    omega (arith, first, second)
+
+pub returns-in_ok-reply_with-in-Exchange-clause-inlet : goal.returns-in_ok-reply_with-in-Exchange-clause-inlet
+returns-in_ok-reply_with-in-Exchange-clause-inlet g c = goes_then c.args.self.now.inlet c.next.new.self.inlet c.reply_with.new.self.inlet c.next.ensures.inlet c.reply_with.ensures.inlet

@@ -1,0 +1,9 @@
+pub mod Conns
+pub mod Exchanges
+pub mod Faults
+pub mod Flows
+pub mod Links
+pub mod Steps
+pub mod Turns
+pub mod Workers
+pub mod model

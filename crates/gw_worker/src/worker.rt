@@ -1,0 +1,65 @@
+ghost use Rattle.std.specs.Prelude.{◌≡◌, ◌<◌, ◌⊎◌, [], length, IfOk, OnOk, OnErr};
+ghost use Rattle.gw_snap.specs.Lists.{BeginsWith};
+ghost use Rattle.gw_worker.specs.Steps.{handled_by};
+ghost use Rattle.gw_worker.specs.Workers.{Decides, IsAt, IsLeftBy};
+ghost use Rattle.gw_worker.specs.model.Sessions.{decision_at, Place};
+
+use gw_answers::{Books, Decision, decided};
+use gw_frames::Request;
+use gw_match::Tables;
+use gw_snap::{Note, OpenFault, Pass};
+use gw_text::NoMemory;
+use std::alloc::Global;
+
+/// Who serves connections, one after another or by turns: by what its pass sees, with its own picks.
+#[derive(Drop)]
+pub struct Worker {
+    pub(crate) pass: Pass<Tables>,
+    pub(crate) books: Books,
+}
+
+impl Worker {
+    /// A worker that picked nothing yet.
+    pub fn new(alloc: Global, pass: Pass<Tables>) -> Worker
+        ensures pass { result.pass ≡ pass }
+        ensures books { result.books ≡ record { backends = []; endpoints = [] } }
+    {
+        Worker {
+            pass,
+            books: Books::new(alloc),
+        }
+    }
+
+    /// Learns of a publication. Its pass has then seen the longer of the two lists.
+    pub fn learn(&mut self, note: &Note<Tables>) -> Result<(), NoMemory>
+        requires { BeginsWith self.old.pass.seen note.now.seen ⊎ BeginsWith note.now.seen self.old.pass.seen }
+        ensures mine { BeginsWith self.old.pass.seen self.new.pass.seen }
+        ensures theirs { OnOk result (BeginsWith note.now.seen self.new.pass.seen) }
+        ensures one { (self.new.pass ≡ self.old.pass) ⊎ (self.new.pass ≡ note.now) }
+        ensures books { self.new.books ≡ self.old.books }
+        ensures err { OnErr result (self.new ≡ self.old) }
+    {
+        self.pass.learn(note)
+    }
+
+    // Decides a request at the door of this number by one view, and says by how many changes.
+    pub(crate) fn decide(
+        &mut self,
+        alloc: Global,
+        door: usize,
+        request: &Request,
+    ) -> Result<(u64, Decision), OpenFault>
+        requires { door < length self.old.pass.fixed.0 }
+        ensures front { IfOk result (λ d. d.0 ≡ length self.new.pass.seen) }
+        ensures decision { IfOk result (λ d. (p : Place) → IsAt self.old p → p.door ≡ door → d.1 ≡ decision_at p request.now (handled_by self.old self.new)) }
+        ensures decides { OnOk result ((p : Place) → IsAt self.old p → p.door ≡ door → Decides p self.old self.new request.now (handled_by self.old self.new)) }
+        ensures err { OnErr result ((p : Place) → IsAt self.old p → p.door ≡ door → IsLeftBy p self.old self.new) }
+        ensures later { BeginsWith self.old.pass.seen self.new.pass.seen }
+        ensures fixed { self.new.pass.fixed ≡ self.old.pass.fixed }
+        ensures place { result ≡ Err OpenFault.Place → ⊥ }
+    {
+        let view = self.pass.read()?;
+        let decision = decided(alloc, view.value.table(door), request, &mut self.books)?;
+        Ok((view.front, decision))
+    }
+}
