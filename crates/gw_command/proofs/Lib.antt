@@ -1,0 +1,6 @@
+pub mod Characters
+pub mod Numbers
+pub mod Plain
+pub mod Requests
+pub mod Starting
+pub mod Tables

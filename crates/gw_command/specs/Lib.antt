@@ -1,0 +1,8 @@
+pub mod Faults
+pub mod Plain
+pub mod Quoted
+pub mod Readings
+pub mod Requests
+pub mod SeenTasks
+pub mod Starts
+pub mod Words
