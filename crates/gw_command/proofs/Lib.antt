@@ -1,5 +1,3 @@
-pub mod Characters
-pub mod Numbers
 pub mod Plain
 pub mod Requests
 pub mod Starting

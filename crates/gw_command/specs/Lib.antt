@@ -1,6 +1,5 @@
 pub mod Faults
 pub mod Plain
-pub mod Quoted
 pub mod Readings
 pub mod Requests
 pub mod SeenTasks

@@ -1,13 +1,11 @@
 -- The commands and their words. Clap's own definitions say what it makes of the words of a command.
-use Rattle.std.specs.Prelude.{ℕ, List, [], ◌∷◌, ◌++◌, length, codes, Bool, ◌&&◌, bytes_eq, if◌then◌else◌, ◌==◌, nat_lt, Option, None, Some, option_map, unwrap_or}
-use Rattle.std.specs.Char.{is_ascii_digit}
-use Rattle.std.specs.List.{list_all}
-use Rattle.std.specs.Str.Parse.{digits_value}
+use Rattle.std.specs.Prelude.{ℕ, List, [], ◌∷◌, ◌++◌, length, codes, bytes_eq, if◌then◌else◌, ◌==◌, Option, None, Some, option_map, unwrap_or}
 use Rattle.gw_text.specs.model.Chains.{◌>>=◌}
 use Rattle.gw_text.specs.model.Doors.{Door, door_of}
 use Rattle.clap.specs.Words.{Rule, Row, App, new_rule, new_app, with_rule, matches_of, fault_of, first_of, all_of}
 use Rattle.clap.specs.declared.builder.action.ArgAction.TheVariants.{Set, Append}
-use Rattle.gw_command.specs.Quoted.{quoted_bytes}
+use Rattle.gw_word.specs.Numbers.{number_below}
+use Rattle.gw_word.specs.Quoted.{quoted_bytes}
 
 -- What `status` is given.
 pub record StatusWords : Type 0 where
@@ -84,14 +82,6 @@ unfoldable pub status_of : List (List ℕ) → Option StatusWords
 status_of words = do
   rows ← found_in status_app words
   status_in rows
-
--- Decimal digits, at least one.
-abbrev pub are_digits : List ℕ → Bool
-are_digits t = nat_lt 0 (length t) && list_all is_ascii_digit t
-
--- The number that decimal digits write, where it is less than the count.
-unfoldable pub number_below : ℕ → List ℕ → Option ℕ
-number_below count t = if are_digits t && nat_lt (digits_value 10 t) count then Some (digits_value 10 t) else None
 
 -- The number of a door that is given, or 0: a door of that number is there.
 abbrev pub at_by : ℕ → Option (List ℕ) → Option ℕ

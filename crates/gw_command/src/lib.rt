@@ -2,7 +2,6 @@
 #![tactic(auto)]
 
 mod fault;
-mod quoted;
 mod request;
 mod setting;
 mod task;

@@ -1,6 +1,4 @@
-ghost use Rattle.std.specs.Prelude.{◌≡◌, ◌<◌, true, false, codes, length, IfOk, IfSome, map, option_map, string_bytes};
-ghost use Rattle.std.specs.Char.{is_ascii_digit};
-ghost use Rattle.std.specs.List.{list_all};
+ghost use Rattle.std.specs.Prelude.{◌≡◌, ◌<◌, true, false, codes, length, IfOk, map, option_map, string_bytes};
 ghost use Rattle.clap.specs.Words.{app_of, rule_of, all_of, first_of, found_of, is_simple, rows_of};
 ghost use Rattle.clap.specs.Faults.{is_simple_and_free};
 ghost use Rattle.gw_command.specs.Readings.{HasDoor, Reads, seen};
@@ -8,10 +6,10 @@ ghost use Rattle.gw_text.specs.model.Doors.{door_of};
 ghost use Rattle.gw_command.specs.Plain.{ReadsPlain};
 ghost use Rattle.gw_command.specs.Words as words_of;
 
-use crate::quoted::quoted_bytes;
 use clap::error::ErrorKind;
 use clap::{Arg, ArgAction, ArgMatches};
 use gw_text::{Door, Text, TextFault};
+use gw_word::{number_below, quoted_bytes};
 use std::alloc::{AllocError, AllocFailed, Global};
 use std::marker::Model;
 
@@ -209,7 +207,7 @@ fn request(alloc: Global, matches: &ArgMatches<'_>) -> Result<Vec<u8>, UsageFaul
     ensures { Reads (λ v. v.items) (words_of.request_by (first_of (codes "request") (rows_of (found_of matches.now)))) result }
 {
     match value_of(matches, "request") {
-        Some(word) => quoted_bytes(alloc, word),
+        Some(word) => quoted_bytes(alloc, word)?.ok_or(UsageFault::Usage),
         None => Err(UsageFault::Usage),
     }
 }
@@ -260,27 +258,6 @@ fn each_door(alloc: Global, words: &[&str]) -> Result<Vec<Door>, UsageFault>
         doors.push(read_door(alloc, word)?)?;
     }
     Ok(doors)
-}
-
-// The number that decimal digits write, where it is less than the count.
-#[tactic(auto, using(crate::proofs::Numbers::number_read), unfolding(crate::specs::Words::number_below))]
-fn number_below(count: usize, text: &str) -> Option<usize>
-    ensures number { result ≡ words_of.number_below count text.now }
-    ensures below { IfSome result (λ n. n < count) }
-{
-    if !has_digits_alone(text.as_bytes()) {
-        return None;
-    }
-    match text.parse::<usize>() {
-        Ok(number) if number < count => Some(number),
-        _ => None,
-    }
-}
-
-fn has_digits_alone(text: &[u8]) -> bool
-    ensures { result ≡ list_all is_ascii_digit text.now }
-{
-    text.iter().all(|b| b.is_ascii_digit())
 }
 
 fn read_door(alloc: Global, word: &str) -> Result<Door, UsageFault>

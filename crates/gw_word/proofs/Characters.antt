@@ -5,7 +5,7 @@ use Rattle.std.specs.Char.{encode_utf8}
 use Rattle.std.specs.Str.{chars, IsUtf8}
 use Rattle.std.proofs.lemmas.Bool.{lt-ltb, ltb-true}
 use Rattle.std.proofs.lemmas.Str.{chars_past_char, chars-nil}
-use Rattle.gw_command.specs.Quoted.{bytes_in}
+use Rattle.gw_word.specs.Quoted.{bytes_in}
 
 abbrev are_bytes : List ℕ → Bool
 are_bytes = list_all (λ c. nat_lt c 256)

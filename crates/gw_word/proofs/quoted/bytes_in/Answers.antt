@@ -1,12 +1,13 @@
 -- A character more, one that is no byte, and the end.
+use Rattle.std.proofs.Common.{sym}
 use Rattle.std.proofs.lemmas.Str.{IsUtf8-past_char}
-use Rattle.gw_command.proofs.Characters.{read_more, bytes_more, not_bytes, all_bytes}
-use Rattle.gw_command.proofs.quoted.bytes_in.Goals as goal
+use Rattle.gw_word.proofs.Characters.{read_more, bytes_more, not_bytes, all_bytes}
+use Rattle.gw_word.proofs.quoted.bytes_in.Goals as goal
 
 pub returns-in_default : goal.returns-in_default
 returns-in_default c =
     let so = c.characters.invariant in
-    not_bytes _ _ _ _ c.in-Some.character so.utf8 c.in-Some.ensures.steps.0 so.read c.in_default.ensures
+    sym (not_bytes _ _ _ _ c.in-Some.character so.utf8 c.in-Some.ensures.steps.0 so.read c.in_default.ensures)
 
 pub characters-preserved : goal.characters-preserved
 characters-preserved c =
@@ -22,4 +23,4 @@ characters-preserved c =
 pub returns : goal.returns
 returns c =
     let so = c.characters.invariant in
-    all_bytes _ _ _ c.in-None.ensures.steps.0.0 so.read so.bytes
+    sym (all_bytes _ _ _ c.in-None.ensures.steps.0.0 so.read so.bytes)

@@ -6,7 +6,7 @@ use Rattle.std.specs.Str.Parse.{digits_value, ParsesUnsigned}
 use Rattle.std.proofs.lemmas.Bool.{ltb-true, lt-ltb}
 use Rattle.std.proofs.lemmas.Str.Parse.{parse_digits}
 use Rattle.gw_text.proofs.Decimals.{digits}
-use Rattle.gw_command.specs.Words.{number_below}
+use Rattle.gw_word.specs.Numbers.{number_below}
 
 -- the number that is parsed, where it is less than the count
 abbrev pub parsed_below : {E : Type 0} → ℕ → Result ℕ E → Option ℕ

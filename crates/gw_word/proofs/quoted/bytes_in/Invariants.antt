@@ -3,7 +3,7 @@ use Rattle.std.proofs.Common.{◌≡◌, ◌++◌, true, nat_lt}
 use Rattle.std.specs.List.{list_all}
 use Rattle.std.specs.Str.{chars, IsUtf8}
 use Rattle.std.specs.Str.Iter.{chars_rest}
-use Rattle.gw_command.proofs.quoted.bytes_in.Given as goal
+use Rattle.gw_word.proofs.quoted.bytes_in.Given as goal
 
 abbrev pub invariant-characters : goal.invariant-characters
 invariant-characters l = record {
