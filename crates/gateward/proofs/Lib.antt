@@ -1,10 +1,1 @@
-pub mod Applying
-pub mod Characters
-pub mod Cutting
-pub mod Doors
-pub mod Numbers
-pub mod Plain
-pub mod Requests
 pub mod Running
-pub mod Starting
-pub mod Tables

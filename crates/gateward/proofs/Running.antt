@@ -2,12 +2,12 @@
 use Rattle.std.proofs.Common.{◌≡◌, ◌∙◌, ℕ, ℤ, ◌<◌, ◌++◌, List, [], Option, Some, None, Ok, refl, sym, ap, if◌then◌else◌, unwrap_or, IfSome, append-nil, option_map}
 use Rattle.gw_link.specs.Faults.{HasRisen}
 use Rattle.gw_link.specs.Pieces.{Gives, IsAtEnd, Takes, TakesPart}
-use Rattle.gateward.specs.Faults.{exit_code}
-use Rattle.gateward.specs.Outputs.{IsOutput}
+use Rattle.gw_command.specs.Faults.{exit_code}
+use Rattle.gw_report.specs.Outputs.{IsOutput}
 use Rattle.gateward.specs.Runs.{WritesText, WritesFront}
-use Rattle.gateward.specs.Starts.{Setting, Starts}
-use Rattle.gateward.specs.declared.fault.Fault.TheVariants.{WriteFailed}
-use Rattle.gateward.specs.declared.output.Output.{Output}
+use Rattle.gw_command.specs.Starts.{Setting, Starts}
+use Rattle.gw_command.specs.declared.fault.Fault.TheVariants.{WriteFailed}
+use Rattle.gw_report.specs.declared.output.Output.{Output}
 
 -- all that was left was read
 read_whole : (left after : Option (List ℕ)) (items : List ℕ) → Gives left items after → IsAtEnd after → IfSome left (λ input. (items ≡ input) × (after ≡ Some []))

@@ -1,21 +1,12 @@
 -- What a run of the program reads and writes, and how it ends.
-use Rattle.std.specs.Prelude.{◌≡◌, ℕ, ℤ, ◌<◌, ◌⊎◌, List, [], length, filter, if◌then◌else◌, Option, Some, Ok, Err}
+use Rattle.std.specs.Prelude.{◌≡◌, ℕ, ℤ, ◌<◌, ◌⊎◌, List, [], if◌then◌else◌, Option, Some, Ok, Err}
 use Rattle.gw_link.specs.Faults.{HasRisen}
 use Rattle.gw_link.specs.Pieces.{Takes, TakesPart}
-use Rattle.gw_link.specs.Moments.{TicksInTurn}
-use Rattle.gateward.specs.Lines.{lines_of}
-use Rattle.gateward.specs.EventLines.{is_event_line}
-use Rattle.gateward.specs.Faults.{exit_code, fault_line}
-use Rattle.gateward.specs.Starts.{Setting, Starts}
-use Rattle.gateward.specs.RunText.{run_text, has_refused}
-use Rattle.gateward.specs.declared.fault.Fault.{Fault}
-use Rattle.gateward.specs.declared.fault.Fault.TheVariants.{Usage, TooManyDoors}
-
--- One moment for each line of the input that isn't blank, in turn: those that the clock tells, where it tells.
-pub record HasMoments (input : List ℕ) (told : Option (List ℤ)) (moments : List ℤ) : Type 0 where
-  pub after : Option (List ℤ)
-  pub in_turn : TicksInTurn told moments after
-  pub each : length moments ≡ length (filter is_event_line (lines_of input))
+use Rattle.gw_command.specs.Faults.{exit_code, fault_line}
+use Rattle.gw_command.specs.Starts.{Setting, Starts}
+use Rattle.gw_report.specs.Outputs.{HasMoments}
+use Rattle.gw_report.specs.RunText.{run_text, has_refused}
+use Rattle.gw_command.specs.declared.fault.Fault.{Fault}
 
 -- The input was read to its end, and its text was written; the exit code says whether a line was refused.
 pub record WritesText (code : ℕ) (words : List (List ℕ)) (input : List ℕ) (told : Option (List ℤ)) (left before written : Option (List ℕ)) : Type 0 where
@@ -38,10 +29,6 @@ pub record WritesFront (words : List (List ℕ)) (input : List ℕ) (told : Opti
 -- The piece was written, unless the sink failed: then the front of it.
 abbrev pub WritesPiece : Option (List ℕ) → List ℕ → Option (List ℕ) → ℕ → ℕ → Type 0
 WritesPiece before piece after faults faults' = Takes before piece after ⊎ (HasRisen faults faults' × TakesPart before piece after)
-
--- An exit code of words that are no command's, or of doors that break a rule.
-abbrev pub IsExitAtStart : ℕ → Type 0
-IsExitAtStart code = (code ≡ exit_code Usage) ⊎ (code ≡ exit_code TooManyDoors)
 
 -- The words have a fault by which the program ends with this exit code, and its line was written.
 pub record EndsAtStart (code : ℕ) (words : List (List ℕ)) (before after : Option (List ℕ)) (faults faults' : ℕ) : Type 0 where

@@ -2,22 +2,10 @@
 //! statuses of the objects that are held after them; `gateward explain` prints what becomes of a request by them.
 #![tactic(auto)]
 
-mod explanation;
-mod fault;
-mod lines;
-mod output;
 mod outside;
-mod print;
-mod quoted;
-mod report;
-mod request;
 mod run;
-mod start;
-mod status;
-mod task;
-mod words;
 
-use fault::Fault;
+use gw_command::Fault;
 use outside::{StdSink, StdSource, WallClock};
 use std::alloc::AllocError;
 use std::io::ErrorKind;

@@ -2,19 +2,18 @@ ghost use Rattle.std.specs.Prelude.{◌≡◌, ◌+◌, ◌<◌, ◌≤◌, ◌�
 ghost use Rattle.gw_link.specs.Faults.{HasRisen};
 ghost use Rattle.gw_link.specs.Pieces.{Takes, TakesPart};
 ghost use Rattle.gw_link.specs.declared.source.TheConstants.{MOST_INPUT, MOST_PIECE};
-ghost use Rattle.gateward.specs.Faults.{exit_code, fault_line};
-ghost use Rattle.gateward.specs.Starts.{Setting as PlainSetting, Starts};
-ghost use Rattle.gateward.specs.Runs.{IsExit, IsExitAtStart, EndsAtStart, WritesText, WritesFront, WritesPiece};
+ghost use Rattle.gw_command.specs.Faults.{IsExitAtStart, exit_code, fault_line};
+ghost use Rattle.gw_command.specs.Starts.{Setting as PlainSetting, Starts};
+ghost use Rattle.gateward.specs.Runs.{IsExit, EndsAtStart, WritesText, WritesFront, WritesPiece};
 
-use crate::fault::Fault;
-use crate::output::{Output, output_of};
-use crate::start::start;
+use gw_command::{Fault, start};
 use gw_link::{Clock, ReadFault, Sink, Source, read_all, write_all};
+use gw_report::{Output, output_of};
 use std::alloc::Global;
 
 /// Runs the program on the words that follow its name, and gives its exit code: 0, or 1 where a line was refused, or
 /// the one of the fault by which it ends.
-#[tactic(auto, using(crate::proofs::Starting::starts_unique))]
+#[tactic(auto, using(gw_command::proofs::Starting::starts_unique))]
 pub fn run<S: Source, K: Sink, C: Clock + Drop>(
     alloc: Global,
     words: &[String],

@@ -1,84 +1,57 @@
-// Attached counts and the entries of Routes, by worked runs.
-use super::{CLASS, joined, run_on};
-use std::process::Abort;
-use std::str;
-use std::test::*;
+// Attached counts and the entries of Routes.
+use super::table::expect_runs;
+use std::test::Fail;
 
-// The listeners of the Gateway `default/g`, the spec of the Route `default/r`, and what stands in the text, one part after the other.
-const CASES: &[(&str, &str, &[&str])] = &[
-    (
-        r#"{"name":"http","port":80,"protocol":"HTTP","hostname":"*.example.com"}"#,
-        r#""parentRefs":[{"name":"g"}],"hostnames":["example.com","test.example.net"]"#,
-        &[
-            r#""listeners":[{"attachedRoutes":0,"#,
-            r#""parents":[{"conditions":[{"reason":"NoMatchingListenerHostname","status":"False","type":"Accepted"},{"reason":"ResolvedRefs","status":"True","type":"ResolvedRefs"}]"#,
-        ],
-    ),
-    (
-        r#"{"name":"http","port":80,"protocol":"HTTP"}"#,
-        r#""parentRefs":[{"name":"g"}],"rules":[{"matches":[{"path":{"type":"RegularExpression","value":"/a"}}]}]"#,
-        &[
-            r#""listeners":[{"attachedRoutes":0,"#,
-            r#""parents":[{"conditions":[{"reason":"UnsupportedValue","status":"False","type":"Accepted"},{"reason":"ResolvedRefs","status":"True","type":"ResolvedRefs"}]"#,
-        ],
-    ),
-    (
-        r#"{"name":"a","port":80,"protocol":"HTTP"}"#,
-        r#""parentRefs":[{"name":"g","sectionName":"a"},{"name":"g","sectionName":"a"}]"#,
-        &[
-            r#""listeners":[{"attachedRoutes":1,"#,
-            r#""parents":[{"conditions":[{"reason":"Accepted","status":"True","type":"Accepted"},{"reason":"ResolvedRefs","status":"True","type":"ResolvedRefs"}],"controllerName":"gateward.example/controller","parentRef":{"group":"gateway.networking.k8s.io","kind":"Gateway","name":"g","namespace":"default","sectionName":"a"}},{"conditions":[{"reason":"Accepted","status":"True","type":"Accepted"},{"reason":"ResolvedRefs","status":"True","type":"ResolvedRefs"}],"controllerName":"gateward.example/controller","parentRef":{"group":"gateway.networking.k8s.io","kind":"Gateway","name":"g","namespace":"default","sectionName":"a"}}]"#,
-        ],
-    ),
-    (
-        r#"{"name":"a","port":80,"protocol":"HTTP","allowedRoutes":{"namespaces":{"from":"Selector","selector":{"matchLabels":{"kubernetes.io/metadata.name":"default"}}}}}"#,
-        r#""parentRefs":[{"name":"g"}]"#,
-        &[
-            r#""listeners":[{"attachedRoutes":1,"#,
-            r#""parents":[{"conditions":[{"reason":"Accepted","status":"True","type":"Accepted"},{"reason":"ResolvedRefs","status":"True","type":"ResolvedRefs"}]"#,
-        ],
-    ),
-    (
-        r#"{"name":"a","port":80,"protocol":"HTTP"},{"name":"b","port":81,"protocol":"HTTP"},{"name":"c","port":80,"protocol":"HTTPS"}"#,
-        r#""parentRefs":[{"name":"g","port":80},{"name":"g","sectionName":"b"},{"name":"g","sectionName":"c"},{"name":"h"},{"kind":"Service","name":"g"}]"#,
-        &[
-            r#""listeners":[{"attachedRoutes":1,"#,
-            r#""name":"a","#,
-            r#"{"attachedRoutes":1,"#,
-            r#""name":"b","#,
-            r#"{"attachedRoutes":0,"#,
-            r#""name":"c","#,
-            r#""port":80}},{"conditions":[{"reason":"Accepted","status":"True","type":"Accepted"},{"reason":"ResolvedRefs","status":"True","type":"ResolvedRefs"}]"#,
-            r#""sectionName":"b"}},{"conditions":[{"reason":"NotAllowedByListeners","status":"False","type":"Accepted"},{"reason":"ResolvedRefs","status":"True","type":"ResolvedRefs"}]"#,
-            r#""sectionName":"c"}}]"#,
-        ],
-    ),
-];
-
-// Fails unless the text has these parts, one after the other.
-fn has_parts(rt: &(impl Abort + AllocGlobal), text: &str, parts: &[&str]) {
-    let mut rest = text;
-    for part in parts {
-        let found = rest.split_once(*part);
-        assert!(rt; found.is_some(), "{part} in {text}");
-        rest = found.unwrap_or(("", "")).1;
-    }
-}
+const ATTACHMENTS: &str = r#"# hostnames that don't meet the listener's
+< CLASS
+< GATEWAY_OF {"name":"http","port":80,"protocol":"HTTP","hostname":"*.example.com"}
+< ROUTE_OF "parentRefs":[{"name":"g"}],"hostnames":["example.com","test.example.net"]
+$ status default/g:80=127.0.0.1:18080
+~ "listeners":[{"attachedRoutes":0,
+~ "parents":[{"conditions":[{"reason":"NoMatchingListenerHostname","status":"False","type":"Accepted"},{"reason":"ResolvedRefs","status":"True","type":"ResolvedRefs"}]
+= 0
+# a match that isn't supported
+< CLASS
+< GATEWAY_OF {"name":"http","port":80,"protocol":"HTTP"}
+< ROUTE_OF "parentRefs":[{"name":"g"}],"rules":[{"matches":[{"path":{"type":"RegularExpression","value":"/a"}}]}]
+$ status default/g:80=127.0.0.1:18080
+~ "listeners":[{"attachedRoutes":0,
+~ "parents":[{"conditions":[{"reason":"UnsupportedValue","status":"False","type":"Accepted"},{"reason":"ResolvedRefs","status":"True","type":"ResolvedRefs"}]
+= 0
+# the same parentRef twice
+< CLASS
+< GATEWAY_OF {"name":"a","port":80,"protocol":"HTTP"}
+< ROUTE_OF "parentRefs":[{"name":"g","sectionName":"a"},{"name":"g","sectionName":"a"}]
+$ status default/g:80=127.0.0.1:18080
+~ "listeners":[{"attachedRoutes":1,
+~ "parents":[{"conditions":[{"reason":"Accepted","status":"True","type":"Accepted"},{"reason":"ResolvedRefs","status":"True","type":"ResolvedRefs"}],"controllerName":"gateward.example/controller","parentRef":{"group":"gateway.networking.k8s.io","kind":"Gateway","name":"g","namespace":"default","sectionName":"a"}},{"conditions":[{"reason":"Accepted","status":"True","type":"Accepted"},{"reason":"ResolvedRefs","status":"True","type":"ResolvedRefs"}],"controllerName":"gateward.example/controller","parentRef":{"group":"gateway.networking.k8s.io","kind":"Gateway","name":"g","namespace":"default","sectionName":"a"}}]
+= 0
+# a selector of the name of the namespace
+< CLASS
+< GATEWAY_OF {"name":"a","port":80,"protocol":"HTTP","allowedRoutes":{"namespaces":{"from":"Selector","selector":{"matchLabels":{"kubernetes.io/metadata.name":"default"}}}}}
+< ROUTE_OF "parentRefs":[{"name":"g"}]
+$ status default/g:80=127.0.0.1:18080
+~ "listeners":[{"attachedRoutes":1,
+~ "parents":[{"conditions":[{"reason":"Accepted","status":"True","type":"Accepted"},{"reason":"ResolvedRefs","status":"True","type":"ResolvedRefs"}]
+= 0
+# a listener in conflict, listeners by name, and parents that are none of ours
+< CLASS
+< GATEWAY_OF {"name":"a","port":80,"protocol":"HTTP"},{"name":"b","port":81,"protocol":"HTTP"},{"name":"c","port":80,"protocol":"HTTPS"}
+< ROUTE_OF "parentRefs":[{"name":"g","port":80},{"name":"g","sectionName":"b"},{"name":"g","sectionName":"c"},{"name":"h"},{"kind":"Service","name":"g"}]
+$ status default/g:80=127.0.0.1:18080
+~ "listeners":[{"attachedRoutes":1,
+~ "name":"a",
+~ {"attachedRoutes":1,
+~ "name":"b",
+~ {"attachedRoutes":0,
+~ "name":"c",
+~ "port":80}},{"conditions":[{"reason":"Accepted","status":"True","type":"Accepted"},{"reason":"ResolvedRefs","status":"True","type":"ResolvedRefs"}]
+~ "sectionName":"b"}},{"conditions":[{"reason":"NotAllowedByListeners","status":"False","type":"Accepted"},{"reason":"ResolvedRefs","status":"True","type":"ResolvedRefs"}]
+~ "sectionName":"c"}}]
+= 0"#;
 
 #[test]
 fn attached_routes_and_entries(rt: HostRuntime) -> Result<(), Fail> {
-    let alloc = rt.alloc();
-    for (listeners, spec, parts) in CASES {
-        let gateway = format!(in alloc;
-            r#"{{"type":"ADDED","object":{{"apiVersion":"gateway.networking.k8s.io/v1","kind":"Gateway","metadata":{{"name":"g"}},"spec":{{"gatewayClassName":"c","listeners":[{listeners}]}}}}}}"#
-        )?;
-        let route = format!(in alloc;
-            r#"{{"type":"ADDED","object":{{"apiVersion":"gateway.networking.k8s.io/v1","kind":"HTTPRoute","metadata":{{"name":"r"}},"spec":{{{spec}}}}}}}"#
-        )?;
-        let input = joined(alloc, &[CLASS, gateway.as_str(), route.as_str()])?;
-        let ran = run_on(alloc, "status default/g:80=127.0.0.1:18080", input)?;
-        assert_eq!(rt; ran.exit_code, 0);
-        has_parts(&rt, str::from_utf8(ran.sink.written()).unwrap_or(""), parts);
-    }
+    expect_runs(&rt, ATTACHMENTS)?;
     Ok(())
 }

@@ -1,8 +1,0 @@
--- A task as contracts see it.
-use Rattle.gateward.specs.Starts.{Task, a_status, an_explanation}
-use Rattle.gateward.specs.declared.task.Task.{Task as Held}
-use Rattle.gateward.specs.declared.task.Task.TheVariants.{Status, Explanation}
-
-abbrev pub seen_task : Held → Task
-seen_task Status = a_status
-seen_task (Explanation at q) = an_explanation at q

@@ -1,0 +1,4 @@
+pub mod Plain
+pub mod Requests
+pub mod Starting
+pub mod Tables

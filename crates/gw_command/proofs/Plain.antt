@@ -1,0 +1,144 @@
+-- Plain words are read as they stand.
+use Rattle.std.proofs.Common.{◌≡◌, ◌∙◌, ◌==◌, ap, ap₂, subst, refl, sym, true, false, true≢false, Bool, ◌||◌, if◌then◌else◌, bytes_eq, codes, List, [], ◌∷◌, ◌++◌, map, length, Some, None, option_map}
+use Rattle.std.proofs.lemmas.Slice.Eq.{bytes_eq-Decides}
+use Rattle.clap.specs.Walk.{Row, Text, first_of}
+use Rattle.clap.specs.Simple.{App, built}
+use Rattle.clap.specs.Kinds.{Kinds}
+use Rattle.clap.proofs.OnLiterals.{clap_on_literals}
+use Rattle.clap.proofs.WalkLemmas.{both}
+use Rattle.gw_text.specs.model.Chains.{◌>>=◌}
+use Rattle.gw_command.specs.Words.{status, status_app, explain, explain_app, controller_by, doors_of, doors_in, found_in, status_in, status_of, explain_in, explain_by, explain_of, command_of}
+use Rattle.gw_command.specs.Plain.{Plain, plain_words, is_plain, is_each_once, is_among, status_options, plain_status, explain_options, plain_explain, value_given, ReadsPlain}
+use Rattle.gw_command.proofs.Tables.{IsOption, TakesDoors, option_row, door_rows, plain_taken, value_in_rows, doors_in_rows, none_is_door}
+
+-- what is so of the first name of a table, and of the others, is so of each
+here : (P : Text → Type 0) (known name : Text) (table : List Text) → P known → (is_among table name ≡ true → P name) → is_among (known ∷ table) name ≡ true → P name
+here P known name table first others among = go (bytes_eq name known) refl among
+  where
+    go : (b : Bool) → bytes_eq name known ≡ b → (b || is_among table name) ≡ true → P name
+    go true same e = subst P (sym ((bytes_eq-Decides name known).0 same)) first
+    go false same e = others e
+
+nobody : (P : Text → Type 0) (name : Text) → is_among [] name ≡ true → P name
+nobody P name among = absurd (true≢false (sym among))
+
+abbrev rows_in : Plain → List Row
+rows_in p = map option_row p.options ++ door_rows p.doors
+
+-- ---- status
+
+abbrev for_status : App
+for_status = built status_app
+
+status_doors : TakesDoors for_status.top
+status_doors = record { by_index = refl; by_id = refl; again = refl; defaults = refl }
+
+status_has : IsOption for_status.top.rules (codes "controller")
+unfolding clap_on_literals
+status_has = record {
+  needed = false;
+  by_long = refl;
+  by_id = refl;
+  joined = λ value. refl;
+  joined_dashes = λ value. refl;
+  no_door = refl;
+  apart = refl;
+  apart_dashes = refl;
+}
+
+status_each : (P : Text → Type 0) → P (codes "controller") → (name : Text) → is_among status_options name ≡ true → P name
+status_each P a name = here P (codes "controller") name [] a (nobody P name)
+
+status_found : (p : Plain) → is_plain status_options p ≡ true → found_in status_app (codes "status" ∷ plain_words p) ≡ Some (rows_in p)
+unfolding found_in
+status_found p plain =
+    ap (λ (r : Kinds × List Row). if length r.0 == 0 then Some r.1 else None)
+    (plain_taken for_status status_options p status_doors (status_each (IsOption for_status.top.rules) status_has) plain refl)
+
+abbrev no_door : Text → Type 0
+no_door name = bytes_eq name (codes "door") ≡ false
+
+others_of : (table : List Text) (p : Plain) → ((name : Text) → is_among table name ≡ true → no_door name) → is_plain table p ≡ true → doors_in (rows_in p) ≡ p.doors
+others_of table p others plain = doors_in_rows p.options p.doors (none_is_door table p.options others (both (is_each_once table p.options) _ plain).0)
+
+status_read : (p : Plain) → is_plain status_options p ≡ true → status_of (codes "status" ∷ plain_words p) ≡ plain_status p
+unfolding status_of status_in
+status_read p plain =
+    ap (λ found. found >>= status_in) (status_found p plain)
+    ∙ ap₂ (λ controller doors. doors_of doors >>= λ ds. Some (record { controller = controller_by controller; doors = ds }))
+    (value_in_rows (codes "controller") p.options p.doors refl) (others_of status_options p (status_each no_door refl) plain)
+
+-- ---- explain
+
+abbrev for_explain : App
+for_explain = built explain_app
+
+explain_doors : TakesDoors for_explain.top
+explain_doors = record { by_index = refl; by_id = refl; again = refl; defaults = refl }
+
+explain_has_controller : IsOption for_explain.top.rules (codes "controller")
+unfolding clap_on_literals
+explain_has_controller = record {
+  needed = false;
+  by_long = refl;
+  by_id = refl;
+  joined = λ value. refl;
+  joined_dashes = λ value. refl;
+  no_door = refl;
+  apart = refl;
+  apart_dashes = refl;
+}
+
+explain_has_at : IsOption for_explain.top.rules (codes "at")
+unfolding clap_on_literals
+explain_has_at = record {
+  needed = false;
+  by_long = refl;
+  by_id = refl;
+  joined = λ value. refl;
+  joined_dashes = λ value. refl;
+  no_door = refl;
+  apart = refl;
+  apart_dashes = refl;
+}
+
+explain_has_request : IsOption for_explain.top.rules (codes "request")
+unfolding clap_on_literals
+explain_has_request = record {
+  needed = false;
+  by_long = refl;
+  by_id = refl;
+  joined = λ value. refl;
+  joined_dashes = λ value. refl;
+  no_door = refl;
+  apart = refl;
+  apart_dashes = refl;
+}
+
+explain_each : (P : Text → Type 0) → P (codes "controller") → P (codes "at") → P (codes "request") → (name : Text) → is_among explain_options name ≡ true → P name
+explain_each P a b c name =
+    here P (codes "controller") name (codes "at" ∷ codes "request" ∷ []) a
+    (here P (codes "at") name (codes "request" ∷ []) b (here P (codes "request") name [] c (nobody P name)))
+
+explain_found : (p : Plain) → is_plain explain_options p ≡ true → found_in explain_app (codes "explain" ∷ plain_words p) ≡ Some (rows_in p)
+unfolding found_in
+explain_found p plain =
+    ap (λ (r : Kinds × List Row). if length r.0 == 0 then Some r.1 else None)
+    (plain_taken for_explain explain_options p explain_doors (explain_each (IsOption for_explain.top.rules) explain_has_controller explain_has_at explain_has_request) plain refl)
+
+explain_values : (p : Plain) → is_plain explain_options p ≡ true → explain_in (rows_in p) ≡ plain_explain p
+explain_values p plain =
+    ap₂ (λ controller at. explain_by controller at (first_of (codes "request") (rows_in p)) (doors_in (rows_in p)))
+    (value_in_rows (codes "controller") p.options p.doors refl) (value_in_rows (codes "at") p.options p.doors refl)
+    ∙ ap₂ (λ request doors. explain_by (value_given (codes "controller") p.options) (value_given (codes "at") p.options) request doors)
+    (value_in_rows (codes "request") p.options p.doors refl) (others_of explain_options p (explain_each no_door refl refl refl) plain)
+
+explain_read : (p : Plain) → is_plain explain_options p ≡ true → explain_of (codes "explain" ∷ plain_words p) ≡ plain_explain p
+unfolding explain_of
+explain_read p plain = ap (λ found. found >>= explain_in) (explain_found p plain) ∙ explain_values p plain
+
+pub plain_is_read : (words : List Text) → ReadsPlain words
+plain_is_read words = record {
+  status = λ p plain are. ap command_of are ∙ ap (option_map status) (status_read p plain);
+  explain = λ p plain are. ap command_of are ∙ ap (option_map explain) (explain_read p plain);
+}

@@ -1,0 +1,333 @@
+-- What a command makes of plain words, where its options have one value each and it takes DOORs.
+use Rattle.std.proofs.Common.{◌≡◌, ◌∙◌, ℕ, refl, sym, ap, true, false, List, [], ◌∷◌, ◌++◌, map, codes, Option, Some, None, ◌==◌, ◌&&◌, ◌||◌, bytes_eq, option_map, option_and_then, unwrap_or, slice_get, is_some, cond, Bool, not, append_assoc, append-nil, true≢false}
+use Rattle.std.specs.List.{fold, list_all, find, flat_map, filter}
+use Rattle.std.proofs.lemmas.Slice.Eq.{bytes_eq-Decides}
+use Rattle.clap.specs.Lexer.{long_of}
+use Rattle.clap.specs.Walk.{Row, Rule, Walk, Text, positional, idle, option, walk_from, walked, used, settled, settled_rows, nothing_held, finished, at_row, without, with_values, more_values, has_row, arg_by_long, arg_by_id, arg_by_index, is_empty, with_default, first_of, all_of, is_pending}
+use Rattle.clap.specs.Simple.{App, Shape, entered, with_index, filled, new_rule}
+use Rattle.clap.specs.Kinds.{Kinds, or_else}
+use Rattle.clap.specs.Faults.{walk_fault, turn_fault, settle_fault, defaults_fault, check_fault, entered_fault}
+use Rattle.clap.specs.declared.builder.action.ArgAction.TheVariants.{Set}
+use Rattle.clap.specs.declared.builder.value_parser.Reading.TheVariants.{AsWritten}
+use Rattle.clap.specs.declared.parser.matches.ValueSource.TheVariants.{CommandLine}
+use Rattle.clap.proofs.WalkLemmas.{both}
+use Rattle.clap.proofs.SimpleLemmas.{is_false, is_nil}
+use Rattle.gw_command.specs.Words.{door_rule}
+use Rattle.gw_command.specs.Plain.{Given, Plain, written, plain_words, is_plain, is_each_once, is_among, is_plain_text, value_given}
+
+-- ---- rows
+
+abbrev pub row : Text → List Text → Row
+row id values = record { id = id; values = values; count = None; source = Some CommandLine; reading = AsWritten }
+
+abbrev pub option_row : Given → Row
+option_row o = row o.name (o.value ∷ [])
+
+abbrev pub door_rows : List Text → List Row
+door_rows [] = []
+door_rows (d ∷ ds) = row (codes "door") (d ∷ ds) ∷ []
+
+neither : (a b : Bool) → (a || b) ≡ false → (a ≡ false) × (b ≡ false)
+neither true b e = absurd (true≢false e)
+neither false b e = (refl, e)
+
+-- a change of the row of an id comes after rows without that id
+at_past : (id : Text) (change : Row → List Row) (missing front rows : List Row) → has_row id front ≡ false
+    → at_row id change missing (front ++ rows) ≡ front ++ at_row id change missing rows
+at_past id change missing [] rows none = refl
+at_past id change missing (r ∷ front) rows none =
+    let parts = neither (bytes_eq r.id id) (has_row id front) none in
+    rw parts.0 (ap (λ rs. r ∷ rs) (at_past id change missing front rows parts.1))
+
+at_none : (id : Text) (change : Row → List Row) (missing rows : List Row) → has_row id rows ≡ false → at_row id change missing rows ≡ rows ++ missing
+at_none id change missing rows none =
+    ap (at_row id change missing) (sym (append-nil rows)) ∙ at_past id change missing rows [] none
+
+added : (id value : Text) (rows : List Row) → has_row id rows ≡ false
+    → with_values id AsWritten CommandLine (value ∷ []) (without id rows) ≡ rows ++ row id (value ∷ []) ∷ []
+added id value rows none =
+    ap (with_values id AsWritten CommandLine (value ∷ [])) (at_none id (λ _. []) [] rows none ∙ append-nil rows)
+    ∙ at_none id (more_values CommandLine (value ∷ [])) (row id (value ∷ []) ∷ []) rows none
+
+abbrev door : Rule
+door = with_index 1 (filled door_rule)
+
+door_added : (rows : List Row) (done : List Text) (d : Text) → has_row (codes "door") rows ≡ false
+    → used door (d ∷ []) (rows ++ door_rows done) ≡ rows ++ door_rows (done ++ d ∷ [])
+door_added rows [] d none = at_past (codes "door") (more_values CommandLine (d ∷ [])) (row (codes "door") (d ∷ []) ∷ []) rows [] none
+door_added rows (e ∷ es) d none = at_past (codes "door") (more_values CommandLine (d ∷ [])) (row (codes "door") (d ∷ []) ∷ []) rows (door_rows (e ∷ es)) none
+
+and_false : (b : Bool) → (b && false) ≡ false
+and_false true = refl
+and_false false = refl
+
+or_true : (b : Bool) → (b || true) ≡ true
+or_true true = refl
+or_true false = refl
+
+same_both : {X : Type 0} (b : Bool) (x : X) → cond b x x ≡ x
+same_both true x = refl
+same_both false x = refl
+
+-- arguments without defaults leave the rows
+no_defaults : (rows : List Row) (c : List Rule) → list_all (λ (a : Rule). is_empty a.defaults) c ≡ true → fold with_default rows c ≡ rows
+no_defaults rows [] e = refl
+no_defaults rows (a ∷ c) e =
+    let parts = both (is_empty a.defaults) _ e in
+    ap (λ rs. fold with_default rs c) (rw (is_nil _ parts.0) (same_both (has_row a.id rows) rows)) ∙ no_defaults rows c parts.1
+
+no_default_fault : (rows : List Row) (c : List Rule) → list_all (λ (a : Rule). is_empty a.defaults) c ≡ true → defaults_fault rows c ≡ []
+unfolding defaults_fault
+no_default_fault rows [] e = refl
+no_default_fault rows (a ∷ c) e =
+    let parts = both (is_empty a.defaults) _ e in
+    rw (parts.0, or_true (has_row a.id rows), is_nil _ parts.0, same_both (has_row a.id rows) rows) (no_default_fault rows c parts.1)
+
+has_row_added : (id : Text) (rows : List Row) (r : Row) → has_row id rows ≡ false → bytes_eq r.id id ≡ false → has_row id (rows ++ r ∷ []) ≡ false
+has_row_added id [] r none other = rw other refl
+has_row_added id (x ∷ rows) r none other =
+    let parts = neither (bytes_eq x.id id) (has_row id rows) none in
+    rw parts.0 (has_row_added id rows r parts.1 other)
+
+-- a name that is left in the table without another
+still_among : (other : Text) (table : List Text) (name : Text) → is_among (filter (λ n. not (bytes_eq other n)) table) name ≡ true
+    → (is_among table name ≡ true) × (bytes_eq other name ≡ false)
+still_among other [] name among = absurd (true≢false (sym among))
+still_among other (n ∷ table) name among = go (bytes_eq other n) refl (still_among other table name) among
+  where
+    rest : List Text
+    rest = filter (λ n. not (bytes_eq other n)) table
+
+    Left : List Text → Type 0
+    Left names = (is_among names name ≡ true) × (bytes_eq other name ≡ false)
+
+    here : (b : Bool) → bytes_eq name n ≡ b → bytes_eq other n ≡ false → (is_among rest name ≡ true → Left table) → (b || is_among rest name) ≡ true
+        → ((b || is_among table name) ≡ true) × (bytes_eq other name ≡ false)
+    here true same differs further e = (refl, rw ((bytes_eq-Decides name n).0 same) differs)
+    here false same differs further e = further e
+
+    go : (b : Bool) → bytes_eq other n ≡ b → (is_among rest name ≡ true → Left table) → is_among (cond (not b) (n ∷ rest) rest) name ≡ true → Left (n ∷ table)
+    go true same further e =
+        let left = further e in
+        (rw left.0 (or_true (bytes_eq name n)), left.1)
+    go false same further e = here (bytes_eq name n) refl same further e
+
+-- ---- a table
+
+-- an option with one value, as a built command has it
+abbrev pub option_rule : Bool → Text → Rule
+option_rule needed name = filled (record (new_rule name) { long = Some name; action = Some Set; required = needed })
+
+-- the command has this option
+pub record IsOption (c : List Rule) (name : Text) : Type 0 where
+  pub needed : Bool
+  pub by_long : arg_by_long c name ≡ Some (option_rule needed name)
+  pub by_id : arg_by_id c name ≡ Some (option_rule needed name)
+  pub joined : (value : Text) → long_of (codes "--" ++ name ++ codes "=" ++ value) ≡ Some (name, Some value)
+  pub joined_dashes : (value : Text) → bytes_eq (codes "--" ++ name ++ codes "=" ++ value) (45 ∷ 45 ∷ []) ≡ false
+  pub no_door : bytes_eq name (codes "door") ≡ false
+  pub apart : long_of (codes "--" ++ name) ≡ Some (name, None)
+  pub apart_dashes : bytes_eq (codes "--" ++ name) (45 ∷ 45 ∷ []) ≡ false
+
+-- the command takes DOORs, gives no argument a default, and refuses a second use
+pub record TakesDoors (s : Shape) : Type 0 where
+  pub by_index : arg_by_index s.rules 1 ≡ Some door
+  pub by_id : arg_by_id s.rules (codes "door") ≡ Some door
+  pub again : s.args_override_self ≡ false
+  pub defaults : list_all (λ a. is_empty a.defaults) s.rules ≡ true
+
+-- ---- the walk
+
+abbrev after_option : List Row → Option (Text × List Text) → Walk
+after_option rows pending = record { held = record { rows = rows; pending = pending; skip = 0 }; waiting = idle; position = 1; is_trailing = false; stopped = None }
+
+abbrev after_name : List Row → Text → Walk
+after_name rows name = record { held = record { rows = rows; pending = Some (name, []); skip = 0 }; waiting = option name; position = 1; is_trailing = false; stopped = None }
+
+abbrev after_door : List Row → Text → Walk
+after_door rows d = record { held = record { rows = rows; pending = Some (codes "door", d ∷ []); skip = 0 }; waiting = positional; position = 1; is_trailing = false; stopped = None }
+
+module _ (app : App) where
+  abbrev walk_on : Walk → List Text → Walk
+  walk_on = fold (walked app.top.rules [])
+
+  abbrev end_fault : Walk → Kinds
+  end_fault w =
+      or_else (entered_fault app w.stopped) (or_else (settle_fault app.top.rules app.top.args_override_self w.held)
+      (or_else (defaults_fault (settled app.top.rules w.held).rows app.top.rules) (check_fault app.top (finished app.top.rules w.held) (is_some (entered app w.stopped)))))
+
+  abbrev pub read_from : Walk → List Text → Kinds × List Row
+  read_from w words = (or_else (walk_fault app.top [] w words) (end_fault (walk_on w words)), finished app.top.rules (walk_on w words).held)
+
+  next : (w after : Walk) (word : Text) (words : List Text) → turn_fault app.top [] w word ≡ [] → walked app.top.rules [] w word ≡ after
+      → read_from w (word ∷ words) ≡ read_from after words
+  unfolding walk_fault
+  next w after word words none is =
+      ap (λ ks. (or_else (or_else ks (walk_fault app.top [] (walked app.top.rules [] w word) words)) (end_fault (walk_on (walked app.top.rules [] w word) words)), finished app.top.rules (walk_on (walked app.top.rules [] w word) words).held)) none
+      ∙ ap (λ v. read_from v words) is
+
+  -- `--name=value`, where what is pending is settled into `rows`
+  joined_next : (held : List Row) (pending : Option (Text × List Text)) (rows : List Row) (name value : Text) (words : List Text)
+      → IsOption app.top.rules name → app.top.args_override_self ≡ false
+      → settle_fault app.top.rules false (after_option held pending).held ≡ [] → settled_rows app.top.rules pending held ≡ rows → has_row name rows ≡ false
+      → read_from (after_option held pending) ((codes "--" ++ name ++ codes "=" ++ value) ∷ words) ≡ read_from (after_option (rows ++ row name (value ∷ []) ∷ []) None) words
+  unfolding walked
+  joined_next held pending rows name value words o again none is new =
+      next (after_option held pending) (after_option (rows ++ row name (value ∷ []) ∷ []) None) (codes "--" ++ name ++ codes "=" ++ value) words
+      (simp (o.joined_dashes value, o.joined value, o.by_long, again, none, is, new) refl)
+      (simp (o.joined_dashes value, o.joined value, o.by_long, is) (ap (λ rs. after_option rs None) (added name value rows new)))
+
+  -- `--name value`, where what is pending is settled into `rows`
+  apart_next : (held : List Row) (pending : Option (Text × List Text)) (rows : List Row) (name : Text) (b : ℕ) (bs : Text) (words : List Text)
+      → IsOption app.top.rules name → app.top.args_override_self ≡ false → (b == 45) ≡ false
+      → settle_fault app.top.rules false (after_option held pending).held ≡ [] → settled_rows app.top.rules pending held ≡ rows
+      → read_from (after_option held pending) ((codes "--" ++ name) ∷ (b ∷ bs) ∷ words) ≡ read_from (after_option rows (Some (name, (b ∷ bs) ∷ []))) words
+  unfolding walked
+  apart_next held pending rows name b bs words o again other none is =
+      next (after_option held pending) (after_name rows name) (codes "--" ++ name) ((b ∷ bs) ∷ words)
+      (simp (o.apart_dashes, o.apart, o.by_long, again, none) refl)
+      (simp (o.apart_dashes, o.apart, o.by_long, is) refl)
+      ∙ next (after_name rows name) (after_option rows (Some (name, (b ∷ bs) ∷ []))) (b ∷ bs) words
+      (simp other refl)
+      (simp (other, o.by_id, (bytes_eq-Decides name name).1 refl) refl)
+
+  -- a value that is pending after its name
+  pending_settles : (rows : List Row) (name value : Text) → IsOption app.top.rules name → app.top.args_override_self ≡ false → has_row name rows ≡ false
+      → (settle_fault app.top.rules false (after_option rows (Some (name, value ∷ []))).held ≡ []) × (settled_rows app.top.rules (Some (name, value ∷ [])) rows ≡ rows ++ row name (value ∷ []) ∷ [])
+  pending_settles rows name value o again new = (simp (o.by_id, new) refl, simp o.by_id (added name value rows new))
+
+  -- the first DOOR
+  first_door : (held : List Row) (pending : Option (Text × List Text)) (rows : List Row) (b : ℕ) (bs : Text) (words : List Text)
+      → TakesDoors app.top → (b == 45) ≡ false
+      → settle_fault app.top.rules false (after_option held pending).held ≡ [] → settled_rows app.top.rules pending held ≡ rows
+      → read_from (after_option held pending) ((b ∷ bs) ∷ words) ≡ read_from (after_door rows (b ∷ bs)) words
+  unfolding walked
+  first_door held pending rows b bs words t other none is =
+      next (after_option held pending) (after_door rows (b ∷ bs)) (b ∷ bs) words
+      (simp (other, t.by_index, t.again, none, and_false (is_pending door pending)) refl)
+      (simp (other, t.by_index, is, and_false (is_pending door pending)) refl)
+
+  -- a further DOOR
+  next_door : (rows : List Row) (done : List Text) (d : Text) (b : ℕ) (bs : Text) (words : List Text)
+      → TakesDoors app.top → (b == 45) ≡ false → has_row (codes "door") rows ≡ false
+      → read_from (after_door (rows ++ door_rows done) d) ((b ∷ bs) ∷ words) ≡ read_from (after_door (rows ++ door_rows (done ++ d ∷ [])) (b ∷ bs)) words
+  unfolding walked
+  next_door rows done d b bs words t other none =
+      next (after_door (rows ++ door_rows done) d) (after_door (rows ++ door_rows (done ++ d ∷ [])) (b ∷ bs)) (b ∷ bs) words
+      (simp (other, t.by_index, t.by_id, t.again) refl)
+      (simp (other, t.by_index, t.by_id) (ap (λ rs. after_door rs (b ∷ bs)) (door_added rows done d none)))
+
+  -- the end of the words
+  ends : (w : Walk) (rows : List Row) → TakesDoors app.top → w.stopped ≡ None → settle_fault app.top.rules false w.held ≡ [] → settled_rows app.top.rules w.held.pending w.held.rows ≡ rows
+      → check_fault app.top rows false ≡ [] → read_from w [] ≡ ([], rows)
+  unfolding walk_fault
+  ends w rows t stopped none is check =
+      simp (stopped, t.again, none, is, no_default_fault rows app.top.rules t.defaults, no_defaults rows app.top.rules t.defaults, check) refl
+
+  doors_read : (rows : List Row) (done : List Text) (d : Text) (ds : List Text) → TakesDoors app.top → has_row (codes "door") rows ≡ false → list_all is_plain_text ds ≡ true
+      → check_fault app.top (rows ++ door_rows (done ++ d ∷ ds)) false ≡ []
+      → read_from (after_door (rows ++ door_rows done) d) ds ≡ ([], rows ++ door_rows (done ++ d ∷ ds))
+  doors_read rows done d [] t none plain check =
+      ends (after_door (rows ++ door_rows done) d) (rows ++ door_rows (done ++ d ∷ [])) t refl (simp t.by_id refl) (simp t.by_id (door_added rows done d none)) check
+  doors_read rows done d ([] ∷ ds) t none plain check = absurd (true≢false (sym plain))
+  doors_read rows done d ((b ∷ bs) ∷ ds) t none plain check =
+      let parts = both _ _ plain in
+      let all : (done ++ d ∷ []) ++ (b ∷ bs) ∷ ds ≡ done ++ d ∷ (b ∷ bs) ∷ ds = append_assoc done (d ∷ []) ((b ∷ bs) ∷ ds) in
+      next_door rows done d b bs ds t (is_false _ parts.0) none
+      ∙ doors_read rows (done ++ d ∷ []) (b ∷ bs) ds t none parts.1 (rw all check)
+      ∙ ap (λ es. ([], rows ++ door_rows es)) all
+
+  -- the DOORs after the options
+  rest_read : (held : List Row) (pending : Option (Text × List Text)) (rows : List Row) (ds : List Text) → TakesDoors app.top
+      → settle_fault app.top.rules false (after_option held pending).held ≡ [] → settled_rows app.top.rules pending held ≡ rows → has_row (codes "door") rows ≡ false
+      → list_all is_plain_text ds ≡ true → check_fault app.top (rows ++ door_rows ds) false ≡ []
+      → read_from (after_option held pending) ds ≡ ([], rows ++ door_rows ds)
+  rest_read held pending rows [] t none is no_door plain check =
+      ends (after_option held pending) (rows ++ []) t refl none (is ∙ sym (append-nil rows)) check
+  rest_read held pending rows ([] ∷ ds) t none is no_door plain check = absurd (true≢false (sym plain))
+  rest_read held pending rows ((b ∷ bs) ∷ ds) t none is no_door plain check =
+      let parts = both _ _ plain in
+      first_door held pending rows b bs ds t (is_false _ parts.0) none is
+      ∙ ap (λ rs. read_from (after_door rs (b ∷ bs)) ds) (sym (append-nil rows))
+      ∙ doors_read rows [] (b ∷ bs) ds t no_door parts.1 check
+
+  option_read : (held : List Row) (pending : Option (Text × List Text)) (rows : List Row) (name value : Text) (is_joined : Bool) (words : List Text) (answer : Kinds × List Row)
+      → TakesDoors app.top → IsOption app.top.rules name → has_row name rows ≡ false
+      → settle_fault app.top.rules false (after_option held pending).held ≡ [] → settled_rows app.top.rules pending held ≡ rows → is_plain_text value ≡ true
+      → ((held' : List Row) (pending' : Option (Text × List Text)) → settle_fault app.top.rules false (after_option held' pending').held ≡ []
+      → settled_rows app.top.rules pending' held' ≡ rows ++ row name (value ∷ []) ∷ [] → read_from (after_option held' pending') words ≡ answer)
+      → read_from (after_option held pending) (written (record { name = name; value = value; is_joined = is_joined }) ++ words) ≡ answer
+  option_read held pending rows name value true words answer t o new none is text onward =
+      joined_next held pending rows name value words o t.again none is new ∙ onward (rows ++ row name (value ∷ []) ∷ []) None refl refl
+  option_read held pending rows name [] false words answer t o new none is text onward = absurd (true≢false (sym text))
+  option_read held pending rows name (b ∷ bs) false words answer t o new none is text onward =
+      let settles = pending_settles rows name (b ∷ bs) o t.again new in
+      apart_next held pending rows name b bs words o t.again (is_false _ text) none is ∙ onward rows (Some (name, (b ∷ bs) ∷ [])) settles.0 settles.1
+
+  -- the options that are still to come, of which none has a row yet
+  options_read : (table : List Text) (options : List Given) (held : List Row) (pending : Option (Text × List Text)) (rows : List Row) (ds : List Text) → TakesDoors app.top
+      → ((name : Text) → is_among table name ≡ true → IsOption app.top.rules name × (has_row name rows ≡ false))
+      → settle_fault app.top.rules false (after_option held pending).held ≡ [] → settled_rows app.top.rules pending held ≡ rows → has_row (codes "door") rows ≡ false
+      → is_each_once table options ≡ true → list_all (λ (o : Given). is_plain_text o.value) options ≡ true → list_all is_plain_text ds ≡ true
+      → check_fault app.top (rows ++ map option_row options ++ door_rows ds) false ≡ []
+      → read_from (after_option held pending) (flat_map written options ++ ds) ≡ ([], rows ++ map option_row options ++ door_rows ds)
+  options_read table [] held pending rows ds t known none is no_door once texts plain check =
+      rest_read held pending rows ds t none is no_door plain (rw (append-nil rows) at check) ∙ ap (λ rs. ([], rs ++ door_rows ds)) (sym (append-nil rows))
+  options_read table (o ∷ options) held pending rows ds t known none is no_door once texts plain check =
+      let parts = both (is_among table o.name) _ once in
+      let here = known o.name parts.0 in
+      let values = both (is_plain_text o.value) _ texts in
+      let later : (name : Text) → is_among (filter (λ n. not (bytes_eq o.name n)) table) name ≡ true → IsOption app.top.rules name × (has_row name (rows ++ option_row o ∷ []) ≡ false) =
+      λ name among.
+      let left = still_among o.name table name among in
+      let before = known name left.0 in
+      (before.0, has_row_added name rows (option_row o) before.1 left.1) in
+      let all : (rows ++ option_row o ∷ []) ++ map option_row options ≡ rows ++ map option_row (o ∷ options) = append_assoc rows (option_row o ∷ []) (map option_row options) in
+      ap (read_from (after_option held pending)) (append_assoc (written o) (flat_map written options) ds)
+      ∙ option_read held pending rows o.name o.value o.is_joined (flat_map written options ++ ds) ([], rows ++ map option_row (o ∷ options) ++ door_rows ds) t here.0 here.1 none is values.0
+      (λ held' pending' none' is'.
+      options_read (filter (λ n. not (bytes_eq o.name n)) table) options held' pending' (rows ++ option_row o ∷ []) ds t later none' is'
+      (has_row_added (codes "door") rows (option_row o) no_door here.0.no_door) parts.1 values.1 plain (rw all check)
+      ∙ ap (λ rs. ([], rs ++ door_rows ds)) all)
+
+  -- plain words are taken, and have a row for each option and one for the DOORs
+  pub plain_taken : (table : List Text) (p : Plain) → TakesDoors app.top → ((name : Text) → is_among table name ≡ true → IsOption app.top.rules name) → is_plain table p ≡ true
+      → check_fault app.top (map option_row p.options ++ door_rows p.doors) false ≡ []
+      → read_from (walk_from nothing_held) (plain_words p) ≡ ([], map option_row p.options ++ door_rows p.doors)
+  plain_taken table p t known plain check =
+      let parts = both (is_each_once table p.options) _ plain in
+      let texts = both (list_all (λ (o : Given). is_plain_text o.value) p.options) _ parts.1 in
+      options_read table p.options [] None [] p.doors t (λ name among. (known name among, refl)) refl refl refl parts.0 texts.0 texts.1 check
+
+-- ---- what is read of the rows
+
+-- the value of an option
+pub value_in_rows : (name : Text) (options : List Given) (ds : List Text) → bytes_eq (codes "door") name ≡ false
+    → first_of name (map option_row options ++ door_rows ds) ≡ value_given name options
+value_in_rows name [] [] other = refl
+value_in_rows name [] (d ∷ ds) other = rw other refl
+value_in_rows name (o ∷ options) ds other = go (bytes_eq o.name name) (value_in_rows name options ds other)
+  where
+    go : (b : Bool) → first_of name (map option_row options ++ door_rows ds) ≡ value_given name options
+        → option_and_then (λ (r : Row). slice_get r.values 0) (cond b (Some (option_row o)) (find (λ (r : Row). bytes_eq r.id name) (map option_row options ++ door_rows ds)))
+        ≡ option_map (λ (g : Given). g.value) (cond b (Some o) (find (λ (g : Given). bytes_eq g.name name) options))
+    go true e = refl
+    go false e = e
+
+-- the DOORs
+pub doors_in_rows : (options : List Given) (ds : List Text) → list_all (λ (o : Given). not (bytes_eq o.name (codes "door"))) options ≡ true
+    → unwrap_or (all_of (codes "door") (map option_row options ++ door_rows ds)) [] ≡ ds
+doors_in_rows [] [] others = refl
+doors_in_rows [] (d ∷ ds) others = refl
+doors_in_rows (o ∷ options) ds others =
+    let parts = both (not (bytes_eq o.name (codes "door"))) _ others in
+    rw (is_false _ parts.0) (doors_in_rows options ds parts.1)
+
+-- no option of a table without that name is called `door`
+pub none_is_door : (table : List Text) (options : List Given) → ((name : Text) → is_among table name ≡ true → bytes_eq name (codes "door") ≡ false)
+    → is_each_once table options ≡ true → list_all (λ (o : Given). not (bytes_eq o.name (codes "door"))) options ≡ true
+none_is_door table [] others once = refl
+none_is_door table (o ∷ options) others once =
+    let parts = both (is_among table o.name) _ once in
+    rw (others o.name parts.0) (none_is_door (filter (λ n. not (bytes_eq o.name n)) table) options
+    (λ name among. others name (still_among o.name table name among).0) parts.1)

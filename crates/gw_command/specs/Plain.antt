@@ -1,0 +1,77 @@
+-- Plain words: a command, then options of its table, each at most once, and then DOORs.
+use Rattle.std.specs.Prelude.{◌≡◌, ℕ, List, [], ◌∷◌, ◌++◌, Bool, true, false, not, ◌&&◌, ◌==◌, codes, bytes_eq, if◌then◌else◌, Option, Some, option_map, find, flat_map, filter}
+use Rattle.std.specs.List.{list_all, list_any}
+use Rattle.gw_text.specs.model.Chains.{◌>>=◌}
+use Rattle.gw_command.specs.Words.{StatusWords, ExplainWords, status, explain, controller_by, doors_of, explain_by, command_of}
+
+-- An option as it is given: in one word, `--name=value`, or in two, `--name value`.
+pub record Given : Type 0 where
+  pub name : List ℕ
+  pub value : List ℕ
+  pub is_joined : Bool
+
+-- The words of an option.
+abbrev pub written : Given → List (List ℕ)
+written o =
+    if o.is_joined then (codes "--" ++ o.name ++ codes "=" ++ o.value) ∷ []
+    else (codes "--" ++ o.name) ∷ o.value ∷ []
+
+-- What stands in plain words.
+pub record Plain : Type 0 where
+  pub options : List Given
+  pub doors : List (List ℕ)
+
+-- The words, after the command.
+abbrev pub plain_words : Plain → List (List ℕ)
+plain_words p = flat_map written p.options ++ p.doors
+
+-- A text that isn't empty and doesn't begin with `-`, which is 45.
+abbrev pub is_plain_text : List ℕ → Bool
+is_plain_text [] = false
+is_plain_text (b ∷ bs) = not (b == 45)
+
+-- One of the names.
+abbrev pub is_among : List (List ℕ) → List ℕ → Bool
+is_among names name = list_any (bytes_eq name) names
+
+-- The options are of the table, each at most once.
+abbrev pub is_each_once : List (List ℕ) → List Given → Bool
+is_each_once table [] = true
+is_each_once table (o ∷ options) =
+    is_among table o.name && is_each_once (filter (λ name. not (bytes_eq o.name name)) table) options
+
+-- The options are of the table, each at most once, and no value or DOOR is empty or begins with `-`.
+abbrev pub is_plain : List (List ℕ) → Plain → Bool
+is_plain table p =
+    is_each_once table p.options && (list_all (λ o. is_plain_text o.value) p.options && list_all is_plain_text p.doors)
+
+-- The value that an option is given.
+abbrev pub value_given : List ℕ → List Given → Option (List ℕ)
+value_given name options = option_map (λ o. o.value) (find (λ o. bytes_eq o.name name) options)
+
+-- The options of `status`.
+abbrev pub status_options : List (List ℕ)
+status_options = codes "controller" ∷ []
+
+-- What plain words give `status`: the controller that is given, or the default, and each DOOR in order, if all are DOORs.
+abbrev pub plain_status : Plain → Option StatusWords
+plain_status p = do
+  doors ← doors_of p.doors
+  Some (record { controller = controller_by (value_given (codes "controller") p.options); doors = doors })
+
+-- The options of `explain`.
+abbrev pub explain_options : List (List ℕ)
+explain_options = codes "controller" ∷ codes "at" ∷ codes "request" ∷ []
+
+-- What plain words give `explain`.
+abbrev pub plain_explain : Plain → Option ExplainWords
+plain_explain p =
+    explain_by (value_given (codes "controller") p.options) (value_given (codes "at") p.options) (value_given (codes "request") p.options) p.doors
+
+-- Plain words are read as they stand: an option's value is the one after its name, and what follows the options are
+-- DOORs. So only a value can make them wrong, or that a request is wanting.
+pub record ReadsPlain (words : List (List ℕ)) : Type 0 where
+  pub status : (p : Plain) → is_plain status_options p ≡ true → words ≡ codes "status" ∷ plain_words p
+      → command_of words ≡ option_map status (plain_status p)
+  pub explain : (p : Plain) → is_plain explain_options p ≡ true → words ≡ codes "explain" ∷ plain_words p
+      → command_of words ≡ option_map explain (plain_explain p)

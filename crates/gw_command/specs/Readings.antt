@@ -1,0 +1,23 @@
+-- What a call answers that reads words.
+use Rattle.std.specs.Prelude.{◌≡◌, ◌<◌, ⊤, length, Option, None, Some, Result, Ok, Err}
+use Rattle.gw_command.specs.declared.words.UsageFault.{UsageFault}
+use Rattle.gw_command.specs.declared.words.UsageFault.TheVariants.{Usage, NoMemory}
+use Rattle.gw_command.specs.declared.words.Command.{Command as Read}
+use Rattle.gw_command.specs.declared.words.Command.TheVariants.{Status, Explain}
+use Rattle.gw_command.specs.Words.{Command, status, explain}
+
+-- What the words give, unless memory ran out; Usage only where they give nothing.
+abbrev pub Reads : {X Y : Type 0} → (X → Y) → Option Y → Result X UsageFault → Type 0
+Reads view given (Ok x) = given ≡ Some (view x)
+Reads view given (Err Usage) = given ≡ None
+Reads view given (Err NoMemory) = Unit {0}
+
+-- A command as contracts see it.
+abbrev pub seen : Read → Command
+seen (Status words) = status words
+seen (Explain words) = explain words
+
+-- A door of the number that a command is given is among the doors that it is given.
+abbrev pub HasDoor : Read → Type 0
+HasDoor (Status words) = ⊤
+HasDoor (Explain words) = words.at < length words.doors

@@ -1,0 +1,118 @@
+-- The commands and their words. Clap's own definitions say what it makes of the words of a command.
+use Rattle.std.specs.Prelude.{ℕ, List, [], ◌∷◌, ◌++◌, length, codes, bytes_eq, if◌then◌else◌, ◌==◌, Option, None, Some, option_map, unwrap_or}
+use Rattle.gw_text.specs.model.Chains.{◌>>=◌}
+use Rattle.gw_text.specs.model.Doors.{Door, door_of}
+use Rattle.clap.specs.Words.{Rule, Row, App, new_rule, new_app, with_rule, matches_of, fault_of, first_of, all_of}
+use Rattle.clap.specs.declared.builder.action.ArgAction.TheVariants.{Set, Append}
+use Rattle.gw_word.specs.Numbers.{number_below}
+use Rattle.gw_word.specs.Quoted.{quoted_bytes}
+
+-- What `status` is given.
+pub record StatusWords : Type 0 where
+  pub controller : List ℕ
+  pub doors : List Door
+
+-- What `explain` is given: the number of a door, and the bytes of a request.
+pub record ExplainWords : Type 0 where
+  pub controller : List ℕ
+  pub at : ℕ
+  pub request : List ℕ
+  pub doors : List Door
+
+-- A command with what it is given.
+pub data Command : Type 0 where
+  status : StatusWords → Command
+  explain : ExplainWords → Command
+
+-- The controller whose GatewayClasses are this program's, where the words name no other.
+abbrev pub default_controller : List ℕ
+default_controller = codes "gateward.example/controller"
+
+-- The option of this name, with one value.
+abbrev pub value_rule : List ℕ → Rule
+value_rule name = record (new_rule name) { long = Some name; action = Some Set }
+
+-- The DOORs: any number of them.
+abbrev pub door_rule : Rule
+door_rule = record (new_rule (codes "door")) { action = Some Append }
+
+-- The words of `status`: [--controller TEXT] [DOOR]...
+abbrev pub status_app : App
+status_app = with_rule (with_rule (new_app (codes "status")) (value_rule (codes "controller"))) door_rule
+
+-- The words of `explain`: [--controller TEXT] [--at N] --request TEXT [DOOR]...
+abbrev pub explain_app : App
+explain_app =
+    with_rule (with_rule (with_rule (with_rule (new_app (codes "explain")) (value_rule (codes "controller")))
+    (value_rule (codes "at"))) (value_rule (codes "request"))) door_rule
+
+-- What clap finds in the words of a command, the command's name first, where it refuses none of them.
+unfoldable pub found_in : App → List (List ℕ) → Option (List Row)
+found_in app words = if length (fault_of app words) == 0 then Some (matches_of app words) else None
+
+-- The controller that is given, or the default.
+abbrev pub controller_by : Option (List ℕ) → List ℕ
+controller_by given = unwrap_or given default_controller
+
+-- The value of `--controller`.
+abbrev pub controller_in : List Row → List ℕ
+controller_in rows = controller_by (first_of (codes "controller") rows)
+
+-- The DOORs, in the order in which they are given.
+abbrev pub doors_in : List Row → List (List ℕ)
+doors_in rows = unwrap_or (all_of (codes "door") rows) []
+
+-- Doors that were read before, in front of those that are still to be read.
+abbrev pub after : List Door → Option (List Door) → Option (List Door)
+after done rest = rest >>= λ doors. Some (done ++ doors)
+
+-- The doors of words, of which each must be a DOOR.
+abbrev pub doors_of : List (List ℕ) → Option (List Door)
+doors_of [] = Some []
+doors_of (word ∷ words) = door_of word >>= λ door. doors_of words >>= λ doors. Some (door ∷ doors)
+
+-- What `status` is given by what clap found.
+unfoldable pub status_in : List Row → Option StatusWords
+status_in rows = do
+  doors ← doors_of (doors_in rows)
+  Some (record { controller = controller_in rows; doors = doors })
+
+-- What `status` is given by its words.
+unfoldable pub status_of : List (List ℕ) → Option StatusWords
+status_of words = do
+  rows ← found_in status_app words
+  status_in rows
+
+-- The number of a door that is given, or 0: a door of that number is there.
+abbrev pub at_by : ℕ → Option (List ℕ) → Option ℕ
+at_by doors given = number_below doors (unwrap_or given (codes "0"))
+
+-- The bytes of the request that is given; one must be.
+abbrev pub request_by : Option (List ℕ) → Option (List ℕ)
+request_by given = given >>= quoted_bytes
+
+-- What `explain` is given by the values of its options and the words of its DOORs.
+unfoldable pub explain_by : Option (List ℕ) → Option (List ℕ) → Option (List ℕ) → List (List ℕ) → Option ExplainWords
+explain_by controller at request doors = do
+  request ← request_by request
+  doors ← doors_of doors
+  at ← at_by (length doors) at
+  Some (record { controller = controller_by controller; at = at; request = request; doors = doors })
+
+-- What `explain` is given by what clap found.
+abbrev pub explain_in : List Row → Option ExplainWords
+explain_in rows = explain_by (first_of (codes "controller") rows) (first_of (codes "at") rows) (first_of (codes "request") rows) (doors_in rows)
+
+-- What `explain` is given by its words.
+unfoldable pub explain_of : List (List ℕ) → Option ExplainWords
+explain_of words = do
+  rows ← found_in explain_app words
+  explain_in rows
+
+-- The command of the words that follow the program's name, of which the first names it. There is none where the
+-- words aren't right.
+abbrev pub command_of : List (List ℕ) → Option Command
+command_of [] = None
+command_of (word ∷ words) =
+    if bytes_eq word (codes "status") then option_map status (status_of (word ∷ words))
+    else (if bytes_eq word (codes "explain") then option_map explain (explain_of (word ∷ words)) else None)

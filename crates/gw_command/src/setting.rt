@@ -1,0 +1,89 @@
+ghost use Rattle.std.specs.Prelude.{◌≡◌, ◌<◌, ◌⊎◌, Some, length, map, string_bytes, IfOk, IfErr};
+ghost use Rattle.gw_text.specs.model.Doors.{door_fault};
+ghost use Rattle.gw_command.specs.Faults.{IsExitAtStart, exit_code};
+ghost use Rattle.gw_command.specs.SeenTasks.{seen_task};
+ghost use Rattle.gw_command.specs.Starts.{HasDoor, IsSetting, IsStart, IsStartBy, with_rule};
+ghost use Rattle.gw_command.specs.Words as commands;
+
+use crate::fault::Fault;
+use crate::request::whole_request;
+use crate::task::Task;
+use crate::words::{Command, ExplainWords, StatusWords, UsageFault, read_words};
+use gw_text::{Door, DoorFault, Doors, Text};
+use std::alloc::Global;
+use std::marker::Model;
+
+/// What the program is set to do by its words.
+#[derive(Drop)]
+pub struct Setting {
+    /// The name by which a GatewayClass chooses this controller.
+    pub controller: Text,
+    pub doors: Doors,
+    pub task: Task,
+}
+
+impl Model for Setting {
+    ghost use Rattle.gw_command.specs.SeenTasks.{seen_task};
+    ghost use Rattle.gw_command.specs.Starts.{Setting as Plain};
+
+    ghost Value = { Plain };
+
+    ghost view = { λ s. record { controller = s.controller; doors = s.doors; task = seen_task s.task } };
+}
+
+/// The setting of the words that follow the program's name.
+#[tactic(auto, unfolding(crate::specs::Starts::Starts))]
+pub fn start(alloc: Global, words: &[String]) -> Result<Setting, Fault>
+    ensures start { IsStart (map string_bytes words.now) result }
+    ensures door { IfOk result (λ s. HasDoor s.task s.doors) }
+    ensures fault { IfErr result (λ fault. IsExitAtStart (exit_code fault) ⊎ (fault ≡ Fault.NoMemory)) }
+{
+    match read_words(alloc, words) {
+        Ok(Command::Status(StatusWords { controller, doors })) => {
+            with_doors(alloc, controller, doors, Task::Status)
+        }
+        Ok(Command::Explain(words)) => explanation(alloc, words),
+        Err(UsageFault::Usage) => Err(Fault::Usage),
+        Err(UsageFault::NoMemory) => Err(Fault::NoMemory),
+    }
+}
+
+// The setting of a request to be explained: its bytes must be one whole request.
+fn explanation(alloc: Global, words: ExplainWords) -> Result<Setting, Fault>
+    requires { words.at < length words.doors }
+    ensures start { IsStartBy (Some (commands.explain words)) result }
+    ensures door { IfOk result (λ s. HasDoor s.task s.doors) }
+    ensures fault { IfErr result (λ fault. IsExitAtStart (exit_code fault) ⊎ (fault ≡ Fault.NoMemory)) }
+{
+    match whole_request(alloc, words.request.as_slice()) {
+        Ok(Some(request)) => {
+            let task = Task::Explanation(words.at, request);
+            with_doors(alloc, words.controller, words.doors, task)
+        }
+        Ok(None) => Err(Fault::Usage),
+        Err(_) => Err(Fault::NoMemory),
+    }
+}
+
+fn with_doors(
+    alloc: Global,
+    controller: Text,
+    doors: Vec<Door>,
+    task: Task,
+) -> Result<Setting, Fault>
+    ensures start { IsSetting (with_rule (door_fault doors.items) controller doors.items (seen_task task)) result }
+    ensures door { HasDoor (seen_task task) doors.items → IfOk result (λ s. HasDoor s.task s.doors) }
+    ensures fault { IfErr result (λ fault. IsExitAtStart (exit_code fault) ⊎ (fault ≡ Fault.NoMemory)) }
+{
+    match Doors::new(alloc, doors) {
+        Ok(doors) => Ok(Setting {
+            controller,
+            doors,
+            task,
+        }),
+        Err(DoorFault::TooManyDoors) => Err(Fault::TooManyDoors),
+        Err(DoorFault::TwoAddresses) => Err(Fault::TwoAddresses),
+        Err(DoorFault::DoorTwice) => Err(Fault::DoorTwice),
+        Err(DoorFault::NoMemory) => Err(Fault::NoMemory),
+    }
+}

@@ -1,0 +1,271 @@
+ghost use Rattle.std.specs.Prelude.{◌≡◌, ◌<◌, true, false, codes, length, IfOk, map, option_map, string_bytes};
+ghost use Rattle.clap.specs.Words.{app_of, rule_of, all_of, first_of, found_of, is_simple, rows_of};
+ghost use Rattle.clap.specs.Faults.{is_simple_and_free};
+ghost use Rattle.gw_command.specs.Readings.{HasDoor, Reads, seen};
+ghost use Rattle.gw_text.specs.model.Doors.{door_of};
+ghost use Rattle.gw_command.specs.Plain.{ReadsPlain};
+ghost use Rattle.gw_command.specs.Words as words_of;
+
+use clap::error::ErrorKind;
+use clap::{Arg, ArgAction, ArgMatches};
+use gw_text::{Door, Text, TextFault};
+use gw_word::{number_below, quoted_bytes};
+use std::alloc::{AllocError, AllocFailed, Global};
+use std::marker::Model;
+
+/// The controller whose GatewayClasses are this program's, where the words name no other.
+pub const DEFAULT_CONTROLLER: &str = "gateward.example/controller";
+
+/// Why words are not read.
+#[derive(Clone, Copy, Debug, PartialEq, Eq, Drop)]
+pub enum UsageFault {
+    /// They name no command, or the command doesn't take them.
+    Usage,
+    /// Memory ran out.
+    NoMemory,
+}
+
+impl From<AllocError> for UsageFault {
+    ghost use Rattle.gw_command.specs.declared.words.UsageFault.TheVariants.{NoMemory as OutOfMemory};
+
+    ghost from_gives = { λ _ e. e ≡ OutOfMemory };
+
+    fn from(_error: AllocError) -> UsageFault {
+        UsageFault::NoMemory
+    }
+}
+
+impl<T: Drop> From<AllocFailed<T>> for UsageFault {
+    ghost use Rattle.gw_command.specs.declared.words.UsageFault.TheVariants.{NoMemory as OutOfMemory};
+
+    ghost from_gives = { λ _ e. e ≡ OutOfMemory };
+
+    fn from(_error: AllocFailed<T>) -> UsageFault {
+        UsageFault::NoMemory
+    }
+}
+
+/// What `status` is given: `[--controller TEXT] [DOOR]...`.
+#[derive(Drop)]
+pub struct StatusWords {
+    /// The controller of the GatewayClasses that are this program's.
+    pub controller: Text,
+    /// The DOORs, in the order in which they are given.
+    pub doors: Vec<Door>,
+}
+
+impl Model for StatusWords {
+    ghost use Rattle.gw_command.specs.Words.{StatusWords as Plain};
+
+    ghost Value = { Plain };
+
+    ghost view = { λ s. record { controller = s.controller; doors = s.doors.items } };
+}
+
+/// What `explain` is given: `[--controller TEXT] [--at N] --request TEXT [DOOR]...`.
+#[derive(Drop)]
+pub struct ExplainWords {
+    /// The controller of the GatewayClasses that are this program's.
+    pub controller: Text,
+    /// The number of a door.
+    pub at: usize,
+    /// The bytes of a request.
+    pub request: Vec<u8>,
+    /// The DOORs, in the order in which they are given.
+    pub doors: Vec<Door>,
+}
+
+impl Model for ExplainWords {
+    ghost use Rattle.gw_command.specs.Words.{ExplainWords as Plain};
+
+    ghost Value = { Plain };
+
+    ghost view = { λ s. record { controller = s.controller; at = s.at; request = s.request.items; doors = s.doors.items } };
+}
+
+/// A command with what it is given.
+#[derive(Drop)]
+pub enum Command {
+    /// Prints the statuses of the objects that lines of events put.
+    Status(StatusWords),
+    /// Prints what becomes of a request at a door, by the objects that lines of events put.
+    Explain(ExplainWords),
+}
+
+/// The command of the words that follow the program's name. Help and the version are usage faults too.
+#[tactic(auto, using(crate::proofs::Plain::plain_is_read))]
+pub fn read_words(alloc: Global, words: &[String]) -> Result<Command, UsageFault>
+    ensures value { Reads seen (words_of.command_of (map string_bytes words.now)) result }
+    ensures door { IfOk result HasDoor }
+    ensures plain { ReadsPlain (map string_bytes words.now) }
+{
+    match words {
+        [name, ..] if name.as_str() == "status" => Ok(Command::Status(read_status(alloc, words)?)),
+        [name, ..] if name.as_str() == "explain" => Ok(Command::Explain(read_explain(
+            alloc, words,
+        )?)),
+        _ => Err(UsageFault::Usage),
+    }
+}
+
+#[tactic(auto, unfolding(crate::specs::Words::status_of))]
+fn read_status(alloc: Global, words: &[String]) -> Result<StatusWords, UsageFault>
+    ensures { Reads (λ s. s) (words_of.status_of (map string_bytes words.now)) result }
+{
+    let matches = matches_for(status_command(alloc)?, words)?;
+    status_words(alloc, &matches)
+}
+
+#[tactic(auto, unfolding(crate::specs::Words::explain_of))]
+fn read_explain(alloc: Global, words: &[String]) -> Result<ExplainWords, UsageFault>
+    ensures value { Reads (λ s. s) (words_of.explain_of (map string_bytes words.now)) result }
+    ensures door { IfOk result (λ s. s.at < length s.doors) }
+{
+    let matches = matches_for(explain_command(alloc)?, words)?;
+    explain_words(alloc, &matches)
+}
+
+fn status_command<'a>(alloc: Global) -> Result<clap::Command<'a>, AllocError>
+    ensures { IfOk result (λ c. app_of c ≡ words_of.status_app) }
+{
+    let controller = value(alloc, "controller");
+    clap::Command::new(alloc, "status")
+        .arg(controller)?
+        .arg(door(alloc))
+}
+
+fn explain_command<'a>(alloc: Global) -> Result<clap::Command<'a>, AllocError>
+    ensures { IfOk result (λ c. app_of c ≡ words_of.explain_app) }
+{
+    clap::Command::new(alloc, "explain")
+        .arg(value(alloc, "controller"))?
+        .arg(value(alloc, "at"))?
+        .arg(value(alloc, "request"))?
+        .arg(door(alloc))
+}
+
+fn value<'a>(alloc: Global, name: &'a str) -> Arg<'a>
+    ensures rule { rule_of result ≡ words_of.value_rule name.entry.now }
+    ensures local { result.global ≡ false }
+{
+    Arg::new(alloc, name).long(name).action(ArgAction::Set)
+}
+
+fn door<'a>(alloc: Global) -> Arg<'a>
+    ensures rule { rule_of result ≡ words_of.door_rule }
+    ensures local { result.global ≡ false }
+{
+    Arg::new(alloc, "door").action(ArgAction::Append)
+}
+
+// What the command finds in the words.
+#[tactic(auto, unfolding(crate::specs::Words::found_in))]
+fn matches_for<'a>(
+    command: clap::Command<'a>,
+    words: &'a [String],
+) -> Result<ArgMatches<'a>, UsageFault>
+    requires simple { is_simple (app_of command) ≡ true }
+    requires free { is_simple_and_free (app_of command) ≡ true }
+    ensures { Reads (λ m. rows_of (found_of m)) (words_of.found_in (app_of command.entry) (map string_bytes words.entry.now)) result }
+{
+    match command.try_get_matches_from(words) {
+        Ok(matches) => Ok(matches),
+        Err(error) => match error.kind() {
+            ErrorKind::OutOfMemory => Err(UsageFault::NoMemory),
+            _ => Err(UsageFault::Usage),
+        },
+    }
+}
+
+#[tactic(auto, unfolding(crate::specs::Words::status_in))]
+fn status_words(alloc: Global, matches: &ArgMatches<'_>) -> Result<StatusWords, UsageFault>
+    ensures { Reads (λ s. s) (words_of.status_in (rows_of (found_of matches.now))) result }
+{
+    let controller = controller(alloc, matches)?;
+    let doors = doors(alloc, matches)?;
+    Ok(StatusWords { controller, doors })
+}
+
+#[tactic(auto, unfolding(crate::specs::Words::explain_by))]
+fn explain_words(alloc: Global, matches: &ArgMatches<'_>) -> Result<ExplainWords, UsageFault>
+    ensures value { Reads (λ s. s) (words_of.explain_in (rows_of (found_of matches.now))) result }
+    ensures door { IfOk result (λ s. s.at < length s.doors) }
+{
+    let request = request(alloc, matches)?;
+    let doors = doors(alloc, matches)?;
+    let at = at(matches, doors.len())?;
+    let controller = controller(alloc, matches)?;
+    Ok(ExplainWords {
+        controller,
+        at,
+        request,
+        doors,
+    })
+}
+
+fn request(alloc: Global, matches: &ArgMatches<'_>) -> Result<Vec<u8>, UsageFault>
+    ensures { Reads (λ v. v.items) (words_of.request_by (first_of (codes "request") (rows_of (found_of matches.now)))) result }
+{
+    match value_of(matches, "request") {
+        Some(word) => quoted_bytes(alloc, word)?.ok_or(UsageFault::Usage),
+        None => Err(UsageFault::Usage),
+    }
+}
+
+fn at(matches: &ArgMatches<'_>, doors: usize) -> Result<usize, UsageFault>
+    ensures value { Reads (λ n. n) (words_of.at_by doors (first_of (codes "at") (rows_of (found_of matches.now)))) result }
+    ensures below { IfOk result (λ n. n < doors) }
+{
+    let text = value_of(matches, "at").unwrap_or("0");
+    number_below(doors, text).ok_or(UsageFault::Usage)
+}
+
+fn controller(alloc: Global, matches: &ArgMatches<'_>) -> Result<Text, AllocError>
+    ensures { IfOk result (λ c. c ≡ words_of.controller_in (rows_of (found_of matches.now))) }
+{
+    let controller = value_of(matches, "controller").unwrap_or(DEFAULT_CONTROLLER);
+    Text::of(alloc, controller)
+}
+
+fn doors(alloc: Global, matches: &ArgMatches<'_>) -> Result<Vec<Door>, UsageFault>
+    ensures { Reads (λ v. v.items) (words_of.doors_of (words_of.doors_in (rows_of (found_of matches.now)))) result }
+{
+    match values_of(matches, "door") {
+        Some(doors) => each_door(alloc, doors),
+        None => Ok(Vec::new(alloc)),
+    }
+}
+
+// The first value of an argument.
+fn value_of<'a>(matches: &ArgMatches<'a>, name: &str) -> Option<&'a str>
+    ensures { option_map (λ s. s.now) result ≡ first_of name.now (rows_of (found_of matches.now)) }
+{
+    matches.get_str(name)
+}
+
+// All values of an argument.
+fn values_of<'m, 'a>(matches: &'m ArgMatches<'a>, name: &str) -> Option<&'m [&'a str]>
+    ensures { option_map (λ s. map (λ v. v.now) s.now) result ≡ all_of name.now (rows_of (found_of matches.now)) }
+{
+    matches.get_strs(name)
+}
+
+fn each_door(alloc: Global, words: &[&str]) -> Result<Vec<Door>, UsageFault>
+    ensures { Reads (λ v. v.items) (words_of.doors_of (map (λ word. word.now) words.now)) result }
+{
+    let mut doors = Vec::new(alloc);
+    'words: for word in words {
+        doors.push(read_door(alloc, word)?)?;
+    }
+    Ok(doors)
+}
+
+fn read_door(alloc: Global, word: &str) -> Result<Door, UsageFault>
+    ensures { Reads (λ door. door) (door_of word.now) result }
+{
+    match Door::parse(alloc, word) {
+        Ok(door) => Ok(door),
+        Err(TextFault::Bad) => Err(UsageFault::Usage),
+        Err(TextFault::NoMemory) => Err(UsageFault::NoMemory),
+    }
+}

@@ -1,0 +1,3 @@
+pub mod Applying
+pub mod Cutting
+pub mod Doors

@@ -1,0 +1,16 @@
+-- The text of the door that is there.
+use Rattle.std.proofs.Common.{◌∙◌, ap}
+use Rattle.std.proofs.lemmas.Result.{IfOk-weaker}
+use Rattle.gw_decide.specs.ExplainText.{explain_text}
+use Rattle.gw_rows.specs.model.DoorRows.{rows_of}
+use Rattle.gw_report.proofs.Doors.{at_door}
+use Rattle.gw_report.proofs.explanation.verdict_text.Goals as goal
+
+pub returns : goal.returns
+returns c =
+    let w = c.args.world.now.world in
+    let q = c.args.request.now in
+    IfOk-weaker c.write_explain.result _ _ (λ text is.
+    rw (← c.setting.view_is) (at_door _ c.args.door (λ d. explain_text (rows_of _ _ w d) q w.changes) text (rw (← c.setting.view_is) at c.requires)
+    (λ d. is ∙ ap (λ rows. explain_text rows q c.changes.result) (c.in_ok-table.ensures ∙ c.in_ok-rows.ensures d)
+    ∙ ap (explain_text (rows_of _ _ w _) q) c.changes.ensures))) c.write_explain.ensures

@@ -1,0 +1,8 @@
+//! What one word says: a number, or bytes in quotes.
+#![tactic(auto)]
+
+mod number;
+mod quoted;
+
+pub use number::number_below;
+pub use quoted::quoted_bytes;
