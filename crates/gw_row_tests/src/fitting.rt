@@ -1,5 +1,5 @@
 //! Which requests a Route's rows fit, and at which test they fall out.
-use crate::cases::{explained, put_route, same, world_of};
+use gw_row_cases::{explained, part, same, with_route, world_of};
 use std::alloc::Global;
 use std::test::*;
 
@@ -55,29 +55,30 @@ const CASES: &str = r#"
 "rules":[{"matches":[{"method":"POST","headers":[{"name":"k","value":"v"}],"queryParams":[{"name":"q","value":"r"}]}]}] | GET /q x | Method
 "#;
 
-fn case(alloc: Global, line: &str) -> Result<(), Fail> {
-    let mut parts = line.split(" | ");
-    let spec = parts.next().unwrap_or("");
-    let asked = parts.next().unwrap_or("");
-    let reason = parts.next().unwrap_or("");
-    let mut world = world_of(alloc, LISTENER)?;
-    let spec = format!(in alloc; "\"parentRefs\":[{{\"name\":\"g\"}}],{spec}")?;
-    put_route(
+fn told(alloc: Global, spec: &str, asked: &str) -> Result<String, Fail> {
+    let spec = format!(in alloc; r#""parentRefs":[{{"name":"g"}}],{spec}"#)?;
+    let world = world_of(alloc, LISTENER)?;
+    let world = with_route(
         alloc,
-        &mut world,
-        "\"namespace\":\"d\",\"name\":\"r\"",
+        world,
+        r#""namespace":"d","name":"r""#,
         spec.as_str(),
         0,
     )?;
-    let told = explained(alloc, &world, 0, asked)?;
+    explained(alloc, world, 0, asked)
+}
+
+fn case(alloc: Global, row: &str) -> Result<(), Fail> {
+    let told = told(alloc, part(row, 0), part(row, 1))?;
+    let reason = part(row, 2);
     let wanted = format!(in alloc; "d/r {reason}")?;
-    same(alloc, line, told.as_str(), wanted.as_str())
+    same(alloc, row, told.as_str(), wanted.as_str())
 }
 
 #[test]
 fn each_test_of_a_row(rt: HostRuntime) -> Result<(), Fail> {
-    for line in CASES.trim().lines() {
-        case(rt.alloc(), line)?;
+    for row in CASES.trim().lines() {
+        case(rt.alloc(), row)?;
     }
     Ok(())
 }

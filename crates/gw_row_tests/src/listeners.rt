@@ -1,7 +1,11 @@
 //! Which listener takes a request, and which Routes have rows there.
-use crate::cases::{explained, put_route, rows_at, same, world_of};
+use gw_row_cases::{explained, part, row_count, same, with_route, world_of};
 use std::alloc::Global;
 use std::test::*;
+
+const FIRST: &str = r#""namespace":"d","name":"a""#;
+
+const SECOND: &str = r#""namespace":"d","name":"b""#;
 
 // The listeners of the Gateway; a Route `d/a` and a Route `d/b`, each its spec; the number of a door, whose ports are 80 and 81; a
 // request; and the reasons.
@@ -26,35 +30,22 @@ fn door_of(text: &str) -> usize {
     }
 }
 
-fn case(alloc: Global, line: &str) -> Result<(), Fail> {
-    let mut parts = line.split(" | ");
-    let mut world = world_of(alloc, parts.next().unwrap_or(""))?;
-    let first = parts.next().unwrap_or("");
-    put_route(
-        alloc,
-        &mut world,
-        "\"namespace\":\"d\",\"name\":\"a\"",
-        first,
-        0,
-    )?;
-    let second = parts.next().unwrap_or("");
-    put_route(
-        alloc,
-        &mut world,
-        "\"namespace\":\"d\",\"name\":\"b\"",
-        second,
-        0,
-    )?;
-    let door = door_of(parts.next().unwrap_or(""));
-    let asked = parts.next().unwrap_or("");
-    let told = explained(alloc, &world, door, asked)?;
-    same(alloc, line, told.as_str(), parts.next().unwrap_or(""))
+fn told(alloc: Global, row: &str) -> Result<String, Fail> {
+    let world = world_of(alloc, part(row, 0))?;
+    let world = with_route(alloc, world, FIRST, part(row, 1), 0)?;
+    let world = with_route(alloc, world, SECOND, part(row, 2), 0)?;
+    explained(alloc, world, door_of(part(row, 3)), part(row, 4))
+}
+
+fn case(alloc: Global, row: &str) -> Result<(), Fail> {
+    let told = told(alloc, row)?;
+    same(alloc, row, told.as_str(), part(row, 5))
 }
 
 #[test]
 fn the_most_specific_listener_takes_the_request(rt: HostRuntime) -> Result<(), Fail> {
-    for line in CASES.trim().lines() {
-        case(rt.alloc(), line)?;
+    for row in CASES.trim().lines() {
+        case(rt.alloc(), row)?;
     }
     Ok(())
 }
@@ -71,27 +62,18 @@ const COUNTS: &str = r#"
 "parentRefs":[{"name":"other"}],"rules":[{}] | 0
 "#;
 
-fn count_case(alloc: Global, line: &str) -> Result<(), Fail> {
-    let mut parts = line.split(" | ");
+fn count_case(alloc: Global, row: &str) -> Result<(), Fail> {
     let listener = r#"{"name":"a","port":80,"protocol":"HTTP","hostname":"*.example.com"}"#;
-    let mut world = world_of(alloc, listener)?;
-    let spec = parts.next().unwrap_or("");
-    put_route(
-        alloc,
-        &mut world,
-        "\"namespace\":\"d\",\"name\":\"a\"",
-        spec,
-        0,
-    )?;
-    let rows = rows_at(alloc, &world, 0)?;
-    let told = format!(in alloc; "{}", rows.rows().len())?;
-    same(alloc, line, told.as_str(), parts.next().unwrap_or(""))
+    let world = world_of(alloc, listener)?;
+    let world = with_route(alloc, world, FIRST, part(row, 0), 0)?;
+    let told = format!(in alloc; "{}", row_count(alloc, world)?)?;
+    same(alloc, row, told.as_str(), part(row, 1))
 }
 
 #[test]
 fn a_row_for_each_hostname_rule_and_match(rt: HostRuntime) -> Result<(), Fail> {
-    for line in COUNTS.trim().lines() {
-        count_case(rt.alloc(), line)?;
+    for row in COUNTS.trim().lines() {
+        count_case(rt.alloc(), row)?;
     }
     Ok(())
 }

@@ -1,5 +1,5 @@
 //! Which of two Routes serves a request that both fit.
-use crate::cases::{explained, places_of, put_route, same, world_of};
+use gw_row_cases::{explained, part, places_of, same, with_route, world_of};
 use gw_store::World;
 use std::alloc::Global;
 use std::test::*;
@@ -34,11 +34,11 @@ GET /?q=r x | "name":"a" | "rules":[{"matches":[{"queryParams":[{"name":"q","val
 const LISTENER: &str =
     r#"{"name":"http","port":80,"protocol":"HTTP","allowedRoutes":{"namespaces":{"from":"All"}}}"#;
 
-// The metadata in the namespace `d`, and the spec with a parentRef to the Gateway.
-fn put(alloc: Global, world: &mut World, metadata: &str, spec: &str) -> Result<(), Fail> {
-    let metadata = format!(in alloc; "\"namespace\":\"d\",{metadata}")?;
-    let spec = format!(in alloc; "\"parentRefs\":[{{\"name\":\"g\"}}],{spec}")?;
-    put_route(alloc, world, metadata.as_str(), spec.as_str(), 0)
+// A Route of the namespace `d` with a parentRef to the Gateway.
+fn with(alloc: Global, world: World, metadata: &str, spec: &str) -> Result<World, Fail> {
+    let metadata = format!(in alloc; r#""namespace":"d",{metadata}"#)?;
+    let spec = format!(in alloc; r#""parentRefs":[{{"name":"g"}}],{spec}"#)?;
+    with_route(alloc, world, metadata.as_str(), spec.as_str(), 0)
 }
 
 fn expected(chosen: &str) -> &'static str {
@@ -48,23 +48,22 @@ fn expected(chosen: &str) -> &'static str {
     }
 }
 
-fn case(alloc: Global, line: &str) -> Result<(), Fail> {
-    let mut parts = line.split(" | ");
-    let asked = parts.next().unwrap_or("");
-    let mut world = world_of(alloc, LISTENER)?;
-    let first = parts.next().unwrap_or("");
-    put(alloc, &mut world, first, parts.next().unwrap_or(""))?;
-    let second = parts.next().unwrap_or("");
-    put(alloc, &mut world, second, parts.next().unwrap_or(""))?;
-    let chosen = parts.next().unwrap_or("");
-    let told = explained(alloc, &world, 0, asked)?;
-    same(alloc, line, told.as_str(), expected(chosen))
+fn told(alloc: Global, row: &str) -> Result<String, Fail> {
+    let world = world_of(alloc, LISTENER)?;
+    let world = with(alloc, world, part(row, 1), part(row, 2))?;
+    let world = with(alloc, world, part(row, 3), part(row, 4))?;
+    explained(alloc, world, 0, part(row, 0))
+}
+
+fn case(alloc: Global, row: &str) -> Result<(), Fail> {
+    let told = told(alloc, row)?;
+    same(alloc, row, told.as_str(), expected(part(row, 5)))
 }
 
 #[test]
 fn each_part_decides(rt: HostRuntime) -> Result<(), Fail> {
-    for line in CASES.trim().lines() {
-        case(rt.alloc(), line)?;
+    for row in CASES.trim().lines() {
+        case(rt.alloc(), row)?;
     }
     Ok(())
 }
@@ -79,100 +78,49 @@ GET / a.b.c | "hostnames":["*.c","*.b.c"],"rules":[{},{}] | 0 0 1
 GET / a.c | "hostnames":["*.c","*.b.c"],"rules":[{}] | 0 0 0
 "#;
 
-fn place_case(alloc: Global, line: &str) -> Result<(), Fail> {
-    let mut parts = line.split(" | ");
-    let asked = parts.next().unwrap_or("");
-    let mut world = world_of(alloc, LISTENER)?;
-    put(
-        alloc,
-        &mut world,
-        "\"name\":\"a\"",
-        parts.next().unwrap_or(""),
-    )?;
-    let places = parts.next().unwrap_or("");
-    let told = places_of(alloc, &world, asked)?;
-    same(alloc, line, told.as_str(), places)
+fn place_case(alloc: Global, row: &str) -> Result<(), Fail> {
+    let world = world_of(alloc, LISTENER)?;
+    let world = with(alloc, world, r#""name":"a""#, part(row, 1))?;
+    let told = places_of(alloc, world, part(row, 0))?;
+    same(alloc, row, told.as_str(), part(row, 2))
 }
 
 #[test]
 fn within_a_route_the_first_is_taken(rt: HostRuntime) -> Result<(), Fail> {
-    for line in PLACES.trim().lines() {
-        place_case(rt.alloc(), line)?;
+    for row in PLACES.trim().lines() {
+        place_case(rt.alloc(), row)?;
     }
     Ok(())
 }
 
-// Objects without a written creation: the one whose key was first put earlier is the older one, also where it is put again.
-#[test]
-fn the_moment_of_the_first_put_counts(rt: HostRuntime) -> Result<(), Fail> {
-    let alloc = rt.alloc();
-    let spec = "\"parentRefs\":[{\"name\":\"g\"}],\"rules\":[{}]";
-    let mut world = world_of(alloc, LISTENER)?;
-    put_route(
-        alloc,
-        &mut world,
-        "\"namespace\":\"d\",\"name\":\"b\"",
-        spec,
-        10,
-    )?;
-    put_route(
-        alloc,
-        &mut world,
-        "\"namespace\":\"d\",\"name\":\"a\"",
-        spec,
-        20,
-    )?;
-    put_route(
-        alloc,
-        &mut world,
-        "\"namespace\":\"d\",\"name\":\"b\"",
-        spec,
-        30,
-    )?;
-    let told = explained(alloc, &world, 0, "GET / x")?;
-    same(
-        alloc,
-        "first moments",
-        told.as_str(),
-        "d/a Preceded, d/b Chosen",
-    )?;
-    let written =
-        "\"namespace\":\"d\",\"name\":\"a\",\"creationTimestamp\":\"1970-01-01T00:00:05Z\"";
-    put_route(alloc, &mut world, written, spec, 40)?;
-    let told = explained(alloc, &world, 0, "GET / x")?;
-    same(
-        alloc,
-        "a written creation",
-        told.as_str(),
-        "d/a Chosen, d/b Preceded",
-    )
+// Puts of Routes, each a moment and metadata, and the Routes by name with what becomes of them. Where no creation is written, the one
+// whose key was first put earlier is the older one, also where it is put again. Keys are ordered by their text: a hyphen stands before
+// the slash.
+const PUTS: &str = r#"
+10 | "namespace":"d","name":"b" | 20 | "namespace":"d","name":"a" | 30 | "namespace":"d","name":"b" | d/a Preceded, d/b Chosen
+10 | "namespace":"d","name":"b" | 20 | "namespace":"d","name":"a" | 40 | "namespace":"d","name":"a","creationTimestamp":"1970-01-01T00:00:05Z" | d/a Chosen, d/b Preceded
+0 | "namespace":"a","name":"x" | 0 | "namespace":"a-b","name":"x" | 0 | "namespace":"a","name":"x" | a-b/x Chosen, a/x Preceded
+"#;
+
+fn put(alloc: Global, world: World, row: &str, number: usize) -> Result<World, Fail> {
+    let at = i64::from(part(row, number).parse::<u32>()?);
+    let spec = r#""parentRefs":[{"namespace":"d","name":"g"}],"rules":[{}]"#;
+    with_route(alloc, world, part(row, number.saturating_add(1)), spec, at)
 }
 
-// Keys are ordered by their text: a hyphen stands before the slash.
+fn put_case(alloc: Global, row: &str) -> Result<(), Fail> {
+    let world = world_of(alloc, LISTENER)?;
+    let world = put(alloc, world, row, 0)?;
+    let world = put(alloc, world, row, 2)?;
+    let world = put(alloc, world, row, 4)?;
+    let told = explained(alloc, world, 0, "GET / x")?;
+    same(alloc, row, told.as_str(), part(row, 6))
+}
+
 #[test]
-fn the_text_of_a_key_decides(rt: HostRuntime) -> Result<(), Fail> {
-    let alloc = rt.alloc();
-    let spec = "\"parentRefs\":[{\"namespace\":\"d\",\"name\":\"g\"}],\"rules\":[{}]";
-    let mut world = world_of(alloc, LISTENER)?;
-    put_route(
-        alloc,
-        &mut world,
-        "\"namespace\":\"a\",\"name\":\"x\"",
-        spec,
-        0,
-    )?;
-    put_route(
-        alloc,
-        &mut world,
-        "\"namespace\":\"a-b\",\"name\":\"x\"",
-        spec,
-        0,
-    )?;
-    let told = explained(alloc, &world, 0, "GET / x")?;
-    same(
-        alloc,
-        "a-b before a",
-        told.as_str(),
-        "a-b/x Chosen, a/x Preceded",
-    )
+fn moments_and_keys_decide(rt: HostRuntime) -> Result<(), Fail> {
+    for row in PUTS.trim().lines() {
+        put_case(rt.alloc(), row)?;
+    }
+    Ok(())
 }
