@@ -157,6 +157,8 @@ open c -1 0
 open c +1 0
 open c 0 x
 open c x 0
+open c 00 0
+open c 0 01
 open c 0 0x1
 open c. 0 0
 open é 0 0

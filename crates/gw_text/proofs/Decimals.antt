@@ -19,7 +19,7 @@ pub both : (a b : Bool) → (a && b) ≡ true → (a ≡ true) × (b ≡ true)
 both true b e = (refl, e)
 both false b e = cc
 
-some_digit : (t : List ℕ) → is_decimal t ≡ true → 0 < length t
+pub some_digit : (t : List ℕ) → is_decimal t ≡ true → 0 < length t
 some_digit [] e = cc
 some_digit (b ∷ t) e = omega arith
 

@@ -34,7 +34,7 @@ pub use name::{
     Name, NamespaceName, TextFault, is_hostname, is_name, is_namespace, is_precise_hostname,
 };
 pub use second::Second;
-pub use socket::{Socket, Sockets};
+pub use socket::{Socket, Sockets, is_decimal};
 pub use std::alloc::AllocError as NoMemory;
 pub use steps::Steps;
 pub use stored::{Incoming, Stored};

@@ -130,7 +130,8 @@ fn are_digits(text: &[u8]) -> bool
     text.iter().all(|b| b.is_ascii_digit())
 }
 
-fn is_decimal(text: &[u8]) -> bool
+/// Whether the text is a number in decimal digits, without a leading zero where there are several.
+pub fn is_decimal(text: &[u8]) -> bool
     ensures { result ≡ addresses.is_decimal text.now }
 {
     are_digits(text) && (text.len() == 1 || begins_above_0(text))

@@ -6,4 +6,4 @@ use Rattle.gw_word.proofs.number.number_below.Goals as goal
 pub returns-in_default-2-clause-number : goal.returns-in_default-2-clause-number
 returns-in_default-2-clause-number c =
     not_read c.args.count c.args.word.now c.parse.result c.in_default.field-0 c.ranges.count.fits
-    (rw (← c.as_bytes.ensures.value) (sym c.has_digits_alone.ensures ∙ c.if-not-has_digits_alone.false)) c.parse.ensures.value.0 c.in_default.is
+    (rw (← c.as_bytes.ensures.value) (sym c.is_decimal.ensures ∙ c.if-not-is_decimal.false)) c.parse.ensures.value.0 c.in_default.is
