@@ -12,7 +12,7 @@ use std::marker::Model;
 use std::str;
 
 /// The most bytes of a text that stand in the text itself. Most names and words are shorter.
-const SHORT: usize = 24;
+const SHORT: usize = 32;
 
 /// A list of bytes. It is text in UTF-8 where it comes from JSON or from the words of a command.
 #[derive(Drop)]
