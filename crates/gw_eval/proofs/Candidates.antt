@@ -7,7 +7,7 @@ use Rattle.std.proofs.lemmas.List.{get_or_default}
 use Rattle.std.proofs.lemmas.List.Folds.{flat_map-map, list_any-append}
 use Rattle.gw_text.specs.model.Doors.{Door}
 use Rattle.gw_text.specs.model.Names.{Key, same_key}
-use Rattle.gw_text.specs.model.Routes.{HttpRoute, Rule, parent_key}
+use Rattle.gw_text.specs.model.Routes.{HttpRoute, parent_key}
 use Rattle.gw_text.specs.model.Statuses.{Entry, entries_of, is_attached}
 use Rattle.gw_text.specs.model.Stored.{Stored}
 use Rattle.gw_text.specs.model.World.{World}

@@ -8,7 +8,7 @@ use Rattle.std.specs.Str.{bytes_eq}
 use Rattle.std.proofs.lemmas.Slice.Eq.{bytes_eq-Decides}
 use Rattle.gw_text.specs.model.Hostnames.{Host, same_host}
 use Rattle.gw_rows.specs.model.Rows.{first_of_each}
-use Rattle.gw_rows.specs.model.DoorRows.{RouteHostname, hostname_at, meeting_hostnames, meets_listener}
+use Rattle.gw_rows.specs.model.DoorRows.{hostname_at, meeting_hostnames, meets_listener}
 
 -- what isn't the same as an earlier entry stays
 kept : {T : Type 0} (same : T → T → Bool) (y x : T) (is_same found : Bool) → same y x ≡ is_same →

@@ -1,6 +1,6 @@
 -- How the rows of a door are made in the body: each Route is evaluated once for all listeners. The rows themselves are defined
 -- without it.
-use Rattle.std.specs.Prelude.{ℕ, List, [], Bool, false, if◌then◌else◌, nat_eq, not, ◌==◌, length, map, filter, flat_map}
+use Rattle.std.specs.Prelude.{ℕ, List, [], Bool, if◌then◌else◌, nat_eq, not, ◌==◌, length, map, filter, flat_map}
 use Rattle.std.specs.List.{enumerate_from, list_any}
 use Rattle.gw_text.specs.model.Doors.{Door}
 use Rattle.gw_text.specs.model.Names.{Key, same_key}

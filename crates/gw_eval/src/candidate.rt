@@ -3,12 +3,15 @@ ghost use Rattle.std.specs.Prelude.{◌≡◌, ◌++◌, ◌∷◌, [], IfOk, On
 ghost use Rattle.std.specs.List.{enumerate_from};
 ghost use Rattle.gw_text.specs.model.Routes.{parent_key};
 ghost use Rattle.gw_text.specs.model.Names.{same_key};
+ghost use Rattle.gw_text.specs.model.World.{namespace_labels};
 ghost use Rattle.gw_eval.specs.Candidates as evaluated;
 ghost use Rattle.gw_eval.specs.Counting.{entries_in};
 
-use crate::entries::{Entry, entries};
+use crate::entries::{Entry, entries_by};
+use crate::home::Home;
 use crate::plans::plan;
 use crate::served::number;
+use gw_labels::Labels;
 use gw_route::{HttpRoute, ParentRef, Rule};
 use gw_rows::Plan;
 use gw_store::World;
@@ -110,18 +113,20 @@ fn places_in(alloc: Global, gateway: &Key, entries: &[Entry<'_>]) -> Result<Vec<
     Ok(places)
 }
 
-// Puts the Route to the others, where it is attached to some listener of the Gateway.
+// Puts the Route, whose namespace has these labels, to the others, where it is attached to some listener of the Gateway.
 fn push_candidate<'w>(
     alloc: Global,
     controller: &Text,
     world: &World,
     door: &Door,
+    labels: &Labels,
     all: &mut Vec<Candidate<'w>>,
     route: &'w Stored<HttpRoute>,
 ) -> Result<(), NoMemory>
+    requires { labels.now ≡ namespace_labels world.now.world route.now.object.meta.key.namespace }
     ensures { OnOk result (all.new.items ≡ all.old.items ++ filter evaluated.has_places (evaluated.candidate_of controller.now world.now.world door.now route.now ∷ [])) }
 {
-    let entries = entries(alloc, controller, world, route)?;
+    let entries = entries_by(alloc, controller, world, labels, route)?;
     let places = places_in(alloc, &door.gateway, entries.as_slice())?;
     if !places.is_empty() {
         let namespace = &route.meta.key.namespace;
@@ -146,8 +151,11 @@ pub fn candidates<'w>(
     ensures { IfOk result (λ all. all.items ≡ evaluated.candidates_of controller.now world.now.world door.now) }
 {
     let mut all = Vec::new(alloc);
+    let mut home = Home::none(alloc);
     'routes: for route in world.routes() {
-        push_candidate(alloc, controller, world, door, &mut all, route)?;
+        home.enter(alloc, world, &route.meta.key.namespace)?;
+        let labels = home.labels();
+        push_candidate(alloc, controller, world, door, labels, &mut all, route)?;
     }
     Ok(all)
 }

@@ -9,9 +9,9 @@ ghost use Rattle.gw_eval.specs.Counting.{entries_in, ArePlaced, IsPlaced};
 ghost use Rattle.gw_rows.specs.model.DoorRows.{managed_at};
 
 use crate::classes::is_managed;
+use crate::home::Home;
 use gw_attach::{Attachment, attach};
 use gw_labels::Labels;
-use gw_objects::labels_by_name;
 use gw_route::{HttpRoute, ParentRef};
 use gw_status::{Condition, ParentStatus, ParentStatuses};
 use gw_store::World;
@@ -106,9 +106,9 @@ fn push_some<'r>(all: &mut Vec<Entry<'r>>, found: Option<Entry<'r>>) -> Result<(
     Ok(())
 }
 
-// The entries of a Route, by the labels of its namespace.
+/// The entries of a Route whose namespace has these labels, in the order of its parentRefs.
 #[tactic(auto, unfolding(gw_text::specs::model::Statuses::entries_of))]
-fn entries_by<'r>(
+pub fn entries_by<'r>(
     alloc: Global,
     controller: &Text,
     world: &World,
@@ -137,14 +137,9 @@ pub fn entries<'r>(
     ensures entries { IfOk result (λ all. entries_in all.items ≡ statuses.entries_of controller.now world.now.world route.now) }
     ensures placed { IfOk result (λ all. ArePlaced world.now.world all.items) }
 {
-    let namespace = &route.meta.key.namespace;
-    match world.namespace_named(alloc, namespace)? {
-        Some(found) => entries_by(alloc, controller, world, &found.labels, route),
-        None => {
-            let labels = labels_by_name(alloc, namespace)?;
-            entries_by(alloc, controller, world, &labels, route)
-        }
-    }
+    let mut home = Home::none(alloc);
+    home.enter(alloc, world, &route.meta.key.namespace)?;
+    entries_by(alloc, controller, world, home.labels(), route)
 }
 
 fn parent_status(

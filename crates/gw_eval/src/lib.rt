@@ -11,6 +11,7 @@ mod classes;
 mod door_rows;
 mod entries;
 mod gateways;
+mod home;
 mod hostnames;
 mod plans;
 mod references;

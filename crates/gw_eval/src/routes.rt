@@ -1,12 +1,14 @@
 //! The statuses of Routes, and how many are attached to each listener.
 ghost use Rattle.std.specs.Prelude.{◌≡◌, ◌+◌, ◌^◌, IfOk, OnOk, length};
 ghost use Rattle.gw_text.specs.model.Statuses as statuses;
-ghost use Rattle.gw_text.specs.model.World.{gateway_key};
+ghost use Rattle.gw_text.specs.model.World.{gateway_key, namespace_labels};
 ghost use Rattle.gw_eval.specs.Counting.{entries_in, more, no_numbers, AreBelow, AreNumbers, AreRows};
 
 use crate::attached::Counts;
-use crate::entries::{Entry, entries, parent_statuses};
+use crate::entries::{Entry, entries_by, parent_statuses};
+use crate::home::Home;
 use crate::references::resolved_refs;
+use gw_labels::Labels;
 use gw_route::HttpRoute;
 use gw_status::{ParentStatuses, RouteStatus, RouteStatuses};
 use gw_store::World;
@@ -14,14 +16,16 @@ use gw_text::{NoMemory, Steps, Text};
 use std::alloc::Global;
 use std::sync::ledger::Ledger;
 
-// The entries of a Route, which is counted.
+// The entries of a Route whose namespace has these labels. The Route is counted.
 fn counted_entries<'r>(
     alloc: Global,
     controller: &Text,
     world: &World,
+    labels: &Labels,
     route: &'r HttpRoute,
     counts: &mut Counts,
 ) -> Result<Vec<Entry<'r>>, NoMemory>
+    requires labels { labels.now ≡ namespace_labels world.now.world route.now.meta.key.namespace }
     requires rows { AreRows world.now.world counts.old }
     requires room { AreBelow (2 ^ 63) counts.old }
     ensures entries { IfOk result (λ all. entries_in all.items ≡ statuses.entries_of controller.now world.now.world route.now) }
@@ -29,7 +33,7 @@ fn counted_entries<'r>(
     ensures numbers { OnOk result ((number : _) → AreNumbers world.now.world counts.old number → AreNumbers world.now.world counts.new
         (λ s place. more (statuses.is_attached (gateway_key s.object) place (statuses.entries_of controller.now world.now.world route.now)) (number s place))) }
 {
-    let all = entries(alloc, controller, world, route)?;
+    let all = entries_by(alloc, controller, world, labels, route)?;
     counts.count_route(all.as_slice());
     Ok(all)
 }
@@ -40,8 +44,10 @@ pub fn counts(alloc: Global, controller: &Text, world: &World) -> Result<Counts,
     ensures numbers { IfOk result (λ counts. AreNumbers world.now.world counts (λ s place. statuses.attached_at controller.now world.now.world (gateway_key s.object) place)) }
 {
     let mut counts = Counts::new(alloc, world)?;
+    let mut home = Home::none(alloc);
     'routes: for route in world.routes() {
-        counted_entries(alloc, controller, world, route, &mut counts)?;
+        home.enter(alloc, world, &route.meta.key.namespace)?;
+        counted_entries(alloc, controller, world, home.labels(), route, &mut counts)?;
     }
     Ok(counts)
 }
@@ -94,9 +100,11 @@ pub fn route_statuses<L: Ledger>(
     ensures steps { OnOk result (steps.new ≡ steps.old + length world.now.world.routes) }
 {
     let mut all = Vec::with_capacity(alloc, world.routes().len())?;
+    let mut home = Home::none(alloc);
     'routes: for route in world.routes() {
         steps.tick();
-        let entries = counted_entries(alloc, controller, world, route, counts)?;
+        home.enter(alloc, world, &route.meta.key.namespace)?;
+        let entries = counted_entries(alloc, controller, world, home.labels(), route, counts)?;
         all.push(route_status(alloc, controller, world, route, entries.as_slice())?)?;
     }
     Ok(RouteStatuses::from_vec(all))

@@ -2,9 +2,12 @@
 use Rattle.std.proofs.Common.{◌≡◌, ◌++◌, drop, map}
 use Rattle.std.specs.Prelude.{filter}
 use Rattle.gw_eval.specs.Candidates.{candidate_of, has_places}
+use Rattle.gw_eval.specs.Homes.{IsHome}
 use Rattle.gw_eval.proofs.candidate.candidates.Given as goal
 
 abbrev pub invariant-routes : goal.invariant-routes
-invariant-routes l =
-    l.all.items ++ filter has_places (map (candidate_of l.controller l.world.world l.door) (drop l.route-index l.world.world.routes))
-    ≡ filter has_places (map (candidate_of l.controller l.world.world l.door) l.world.world.routes)
+invariant-routes l = record {
+  home : IsHome l.world.world l.home;
+  candidates : l.all.items ++ filter has_places (map (candidate_of l.controller l.world.world l.door) (drop l.route-index l.world.world.routes))
+      ≡ filter has_places (map (candidate_of l.controller l.world.world l.door) l.world.world.routes);
+}

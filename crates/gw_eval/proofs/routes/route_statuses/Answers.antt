@@ -7,6 +7,7 @@ use Rattle.gw_eval.proofs.routes.route_statuses.Goals as goal
 
 pub routes-init : goal.routes-init
 routes-init g c = record {
+  home = search rules;
   statuses = search rules;
   counted = of_no_routes c.args.controller.now c.args.world.now.world c.args.counts.now c.requires.none;
   steps = omega arith;
@@ -26,9 +27,10 @@ routes-preserved g c =
     let here : item ≡ get_or world.routes i item = search rules in
     let done = c.in_ok-entries.ensures in
     record {
+      home = search rules;
       statuses = mapped_step (route_status_of controller world) _ c.routes.all.items (c.in_ok-route_status.field-0 ∷ []) (objects_of (take i world.routes)) (item.object ∷ []) _
           c.in_ok-push.ensures.items c.routes.invariant.statuses (ap (λ s. s ∷ []) (search rules)) (objects_more world.routes i item within here);
-      counted = of_one_more controller world i item c.routes.counts _ within here c.routes.invariant.counted done.rows (rw c.deref.ensures at done.numbers);
+      counted = of_one_more controller world i item c.routes.counts _ within here c.routes.invariant.counted done.rows (rw c.deref-in-routes-3.ensures at done.numbers);
       steps = search rules;
     }
 
