@@ -1,10 +1,9 @@
 //! The text of what becomes of a request, and of why.
 ghost use Rattle.std.specs.Prelude.{◌≡◌, ◌++◌, IfOk, OnOk, IsTrue, Some, codes, map, option_copied, string_bytes};
-ghost use Rattle.serde_json.specs.Data.{number, string, unsigned, put};
+ghost use Rattle.serde_json.specs.Data.{put};
 ghost use Rattle.serde_json.specs.View.{members_view, view};
 ghost use Rattle.gw_json.specs.Lines.{line_of};
 ghost use Rattle.gw_route.specs.States.{seen_state};
-ghost use Rattle.gw_text.specs.model.Forms.{printed};
 ghost use Rattle.gw_text.specs.model.Matches as matches;
 ghost use Rattle.gw_decide.specs.ExplainText as texts;
 ghost use Rattle.gw_decide.specs.Seen.{path_fits, seen_verdict};
@@ -15,7 +14,7 @@ use crate::verdict::{Verdict, decide, redirect_in};
 use crate::why::Why;
 use gw_filters::location;
 use gw_frames::Request;
-use gw_json::push_line;
+use gw_json::{push_line, put_number, put_text};
 use gw_match::DoorTable;
 use gw_route::{BackendState, Redirect};
 use gw_rows::{Backend, Row, ServedListener};
@@ -81,41 +80,6 @@ fn verdict_value(
     Ok(Value::from(members))
 }
 
-fn put_text(
-    alloc: Global,
-    members: &mut Map<String, Value>,
-    name: &str,
-    text: &str,
-) -> Result<(), NoMemory>
-    ensures { OnOk result (members_view members.new.entries ≡ put name.now (string text.now) (members_view members.old.entries)) }
-{
-    let text = String::from_str(alloc, text)?;
-    put(members, alloc, name, Value::from(text))
-}
-
-fn put_printed(
-    alloc: Global,
-    members: &mut Map<String, Value>,
-    name: &str,
-    text: &Text,
-) -> Result<(), NoMemory>
-    ensures { OnOk result (members_view members.new.entries ≡ put name.now (string (printed text.now)) (members_view members.old.entries)) }
-{
-    let text = text.printed(alloc)?;
-    put(members, alloc, name, Value::from(text))
-}
-
-fn put_number(
-    alloc: Global,
-    members: &mut Map<String, Value>,
-    name: &str,
-    n: u64,
-) -> Result<(), NoMemory>
-    ensures { OnOk result (members_view members.new.entries ≡ put name.now (number (unsigned n)) (members_view members.old.entries)) }
-{
-    put(members, alloc, name, Value::from(n))
-}
-
 // The listener that takes the request, if one does.
 fn put_listener(
     alloc: Global,
@@ -125,7 +89,10 @@ fn put_listener(
     ensures { OnOk result (members_view members.new.entries ≡ texts.with_listener (option_copied listener.entry) (members_view members.old.entries)) }
 {
     match listener {
-        Some(listener) => put_printed(alloc, members, "listener", &listener.name),
+        Some(listener) => {
+            let name = listener.name.printed(alloc)?;
+            put_text(alloc, members, "listener", name.as_str())
+        }
         None => Ok(()),
     }
 }
@@ -154,7 +121,8 @@ fn put_row(alloc: Global, members: &mut Map<String, Value>, row: &Row) -> Result
 {
     let route = row.key.print(alloc)?;
     put_number(alloc, members, "rule", u64::from(row.rule))?;
-    put_printed(alloc, members, "route", &route)?;
+    let route = route.printed(alloc)?;
+    put_text(alloc, members, "route", route.as_str())?;
     put_number(alloc, members, "match", u64::from(row.place))
 }
 
@@ -188,7 +156,8 @@ fn put_redirect(
 {
     let code = redirect.status_code.unwrap_or(FOUND);
     let location = location(alloc, redirect, &row.test.path, request, row.port)?;
-    put_printed(alloc, members, "location", &location)?;
+    let location = location.printed(alloc)?;
+    put_text(alloc, members, "location", location.as_str())?;
     put_number(alloc, members, "code", u64::from(code))
 }
 

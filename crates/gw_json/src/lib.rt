@@ -9,6 +9,7 @@ mod line;
 mod member;
 mod path;
 mod presence;
+mod put;
 mod refusal;
 
 pub use cursor::Cursor;
@@ -16,4 +17,5 @@ pub use form::{Form, Number16, Number32, Number64, Port, TextForm, Truth};
 pub use line::{MAX_LINE, push_line, read_value};
 pub use member::{Member, Node};
 pub use path::Path;
+pub use put::{put_number, put_text};
 pub use refusal::Refusal;
