@@ -1,5 +1,5 @@
 -- Steps of a script: what is done, one step after another.
-use Rattle.std.specs.Prelude.{ℕ, List, Bool, true, false, Option, None, Some}
+use Rattle.std.specs.Prelude.{ℕ, ◌<◌, List, Bool, true, false, Option, None, Some, ⊤}
 use Rattle.gw_text.specs.model.Addresses.{Socket}
 use Rattle.gw_link.specs.declared.order.UpstreamCall.{UpstreamCall}
 
@@ -24,3 +24,13 @@ connection_of (a_sending name bytes) = Some (name, true)
 connection_of (an_end name) = Some (name, true)
 connection_of (an_answer socket text fill) = None
 connection_of (a_failure socket call) = None
+
+-- The worker and the door that a step names are there, among so many.
+abbrev pub IsWithin : ℕ → ℕ → Step → Type 0
+IsWithin workers doors (an_event bytes) = ⊤
+IsWithin workers doors a_publication = ⊤
+IsWithin workers doors (a_beginning name worker door) = (worker < workers) × (door < doors)
+IsWithin workers doors (a_sending name bytes) = ⊤
+IsWithin workers doors (an_end name) = ⊤
+IsWithin workers doors (an_answer socket text fill) = ⊤
+IsWithin workers doors (a_failure socket call) = ⊤

@@ -1,7 +1,8 @@
-ghost use Rattle.std.specs.Prelude.{◌≡◌, option_map};
+ghost use Rattle.std.specs.Prelude.{◌≡◌, ℕ, option_map, IfOk, IfSome};
 ghost use Rattle.gw_script.specs.Readings.{IsStep, Reads};
 ghost use Rattle.gw_script.specs.Scripts as scripts;
 ghost use Rattle.gw_script.specs.Seen.{seen_step};
+ghost use Rattle.gw_script.specs.Steps.{IsWithin};
 
 use crate::answer::answer_text;
 use crate::part::{call_of, cut, name_of, socket, text_of};
@@ -21,7 +22,8 @@ pub fn read_step<'l>(
     workers: usize,
     doors: usize,
 ) -> Result<Step<'l>, StepRefusal>
-    ensures { IsStep (scripts.step_of workers doors line.now) result }
+    ensures step { IsStep (scripts.step_of workers doors line.now) result }
+    ensures within { IfOk result (λ step. IsWithin workers doors (seen_step step)) }
 {
     if let Some(event) = line.strip_prefix(b"event ") {
         return Ok(Step::Event(event));
@@ -43,7 +45,8 @@ fn step<'l>(
     workers: usize,
     doors: usize,
 ) -> Result<Step<'l>, StepRefusal>
-    ensures { Reads seen_step (scripts.form_of workers doors line.now) result }
+    ensures step { Reads seen_step (scripts.form_of workers doors line.now) result }
+    ensures within { IfOk result (λ step. IsWithin workers doors (seen_step step)) }
 {
     let (command, parts) = cut(line);
     match command {
@@ -59,7 +62,8 @@ fn step<'l>(
 
 #[tactic(auto, unfolding(crate::specs::Scripts::open_of))]
 fn open<'l>(parts: &'l str, workers: usize, doors: usize) -> Option<Step<'l>>
-    ensures { option_map seen_step result ≡ scripts.open_of workers doors parts.now }
+    ensures step { option_map seen_step result ≡ scripts.open_of workers doors parts.now }
+    ensures within { IfSome result (λ step. IsWithin workers doors (seen_step step)) }
 {
     let (name, numbers) = cut(parts);
     let (worker, door) = cut(numbers);
@@ -71,7 +75,8 @@ fn open<'l>(parts: &'l str, workers: usize, doors: usize) -> Option<Step<'l>>
 
 #[tactic(auto, unfolding(crate::specs::Scripts::send_of))]
 fn send<'l>(alloc: Global, parts: &'l str) -> Result<Step<'l>, StepRefusal>
-    ensures { Reads seen_step (scripts.send_of parts.now) result }
+    ensures step { Reads seen_step (scripts.send_of parts.now) result }
+    ensures within { (workers doors : ℕ) → IfOk result (λ step. IsWithin workers doors (seen_step step)) }
 {
     let (name, text) = cut(parts);
     let name = name_of(name).ok_or(StepRefusal::NotStep)?;
@@ -84,7 +89,8 @@ fn send<'l>(alloc: Global, parts: &'l str) -> Result<Step<'l>, StepRefusal>
 
 #[tactic(auto, unfolding(crate::specs::Scripts::end_of))]
 fn end(parts: &str) -> Option<Step<'_>>
-    ensures { option_map seen_step result ≡ scripts.end_of parts.now }
+    ensures step { option_map seen_step result ≡ scripts.end_of parts.now }
+    ensures within { (workers doors : ℕ) → IfSome result (λ step. IsWithin workers doors (seen_step step)) }
 {
     let name = name_of(parts)?;
     Some(Step::End { name })
@@ -92,7 +98,8 @@ fn end(parts: &str) -> Option<Step<'_>>
 
 #[tactic(auto, unfolding(crate::specs::Scripts::answer_of))]
 fn answer<'l>(alloc: Global, parts: &'l str) -> Result<Step<'l>, StepRefusal>
-    ensures { Reads seen_step (scripts.answer_of parts.now) result }
+    ensures step { Reads seen_step (scripts.answer_of parts.now) result }
+    ensures within { (workers doors : ℕ) → IfOk result (λ step. IsWithin workers doors (seen_step step)) }
 {
     let (at, text) = cut(parts);
     let socket = socket(alloc, at)?;
@@ -102,7 +109,8 @@ fn answer<'l>(alloc: Global, parts: &'l str) -> Result<Step<'l>, StepRefusal>
 
 #[tactic(auto, unfolding(crate::specs::Scripts::fail_of))]
 fn fail<'l>(alloc: Global, parts: &'l str) -> Result<Step<'l>, StepRefusal>
-    ensures { Reads seen_step (scripts.fail_of parts.now) result }
+    ensures step { Reads seen_step (scripts.fail_of parts.now) result }
+    ensures within { (workers doors : ℕ) → IfOk result (λ step. IsWithin workers doors (seen_step step)) }
 {
     let (at, call) = cut(parts);
     let socket = socket(alloc, at)?;
