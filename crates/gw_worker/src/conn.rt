@@ -117,6 +117,9 @@ impl Conn {
         ensures rows { OnErr result (self.new.rows ≡ self.old.rows) }
         ensures later { BeginsWith w.old.pass.seen w.new.pass.seen }
         ensures fixed { w.new.pass.fixed ≡ w.old.pass.fixed }
+
+        // Only a publication that the worker learns of brings more changes.
+        ensures held { w.new.pass.seen ≡ w.old.pass.seen }
         ensures place { result ≡ Err OpenFault.Place → ⊥ }
         ensures door { self.new.door ≡ self.old.door }
     {

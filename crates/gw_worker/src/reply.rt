@@ -9,7 +9,7 @@ use gw_replies::{BackendFault, Response};
 use gw_text::NoMemory;
 
 impl Conn {
-    // The row and the reply of a request for what the backend answered.
+    /// The row and the reply of a request for what the backend answered.
     pub(crate) fn reply(
         &mut self,
         asked: Asked,

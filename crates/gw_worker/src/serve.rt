@@ -59,6 +59,9 @@ pub fn serve_proxy<K: Link, U: Upstream>(
     ensures becomes { U.becomes up.old up.new }
     ensures later { BeginsWith w.old.pass.seen w.new.pass.seen }
     ensures fixed { w.new.pass.fixed ≡ w.old.pass.fixed }
+
+    // Only a publication that the worker learns of brings more changes.
+    ensures held { w.new.pass.seen ≡ w.old.pass.seen }
 {
     let mut conn = Conn::new(alloc, door);
     match serve(&mut conn, w, link, up) {
@@ -96,6 +99,7 @@ fn serve<K: Link, U: Upstream>(
     ensures becomes { U.becomes up.old up.new }
     ensures later { BeginsWith w.old.pass.seen w.new.pass.seen }
     ensures fixed { w.new.pass.fixed ≡ w.old.pass.fixed }
+    ensures held { w.new.pass.seen ≡ w.old.pass.seen }
 {
     let mut buffer = [0; MOST_PIECE];
     let mut taken = 0;

@@ -23,7 +23,7 @@ use gw_text::{NoMemory, Text};
 const CONTINUE: &[u8] = b"HTTP/1.1 100 Continue\r\n\r\n";
 
 impl Conn {
-    // What the bytes give next.
+    /// What the bytes give next.
     pub(crate) fn step(&mut self, w: &mut Worker) -> Result<Turn, OpenFault>
         requires door { self.old.door < length w.old.pass.fixed.0 }
         requires reading { self.old.stage ≡ Stage.Reading }
@@ -38,6 +38,7 @@ impl Conn {
         ensures rows { OnErr result (self.new.rows ≡ self.old.rows) }
         ensures later { BeginsWith w.old.pass.seen w.new.pass.seen }
         ensures fixed { w.new.pass.fixed ≡ w.old.pass.fixed }
+        ensures held { w.new.pass.seen ≡ w.old.pass.seen }
         ensures place { result ≡ Err OpenFault.Place → ⊥ }
         ensures door { self.new.door ≡ self.old.door }
     {
@@ -92,7 +93,7 @@ impl Conn {
         self.end(why)
     }
 
-    // Ends the connection.
+    /// Ends the connection.
     pub(crate) fn end(&mut self, why: Ended) -> Turn
         ensures turn { result ≡ Turn.Ended why }
         ensures after { self.new ≡ record self.old { stage = Stage.Ended why } }
@@ -114,6 +115,7 @@ impl Conn {
         ensures rows { OnErr result (self.new.rows ≡ self.old.rows) }
         ensures later { BeginsWith w.old.pass.seen w.new.pass.seen }
         ensures fixed { w.new.pass.fixed ≡ w.old.pass.fixed }
+        ensures held { w.new.pass.seen ≡ w.old.pass.seen }
         ensures place { result ≡ Err OpenFault.Place → ⊥ }
         ensures door { self.new.door ≡ self.old.door }
     {

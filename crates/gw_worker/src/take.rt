@@ -64,6 +64,9 @@ impl Conn {
         ensures becomes { U.becomes up.old up.new }
         ensures later { BeginsWith w.old.pass.seen w.new.pass.seen }
         ensures fixed { w.new.pass.fixed ≡ w.old.pass.fixed }
+
+        // Only a publication that the worker learns of brings more changes.
+        ensures held { w.new.pass.seen ≡ w.old.pass.seen }
         ensures door { self.new.door ≡ self.old.door }
     {
         self.feed(piece)?;
@@ -99,6 +102,7 @@ impl Conn {
         ensures becomes { U.becomes up.old up.new }
         ensures later { BeginsWith w.old.pass.seen w.new.pass.seen }
         ensures fixed { w.new.pass.fixed ≡ w.old.pass.fixed }
+        ensures held { w.new.pass.seen ≡ w.old.pass.seen }
         ensures door { self.new.door ≡ self.old.door }
     {
         'turns: loop {
@@ -138,6 +142,7 @@ impl Conn {
         ensures becomes { U.becomes up.old up.new }
         ensures later { BeginsWith w.old.pass.seen w.new.pass.seen }
         ensures fixed { w.new.pass.fixed ≡ w.old.pass.fixed }
+        ensures held { w.new.pass.seen ≡ w.old.pass.seen }
         ensures door { self.new.door ≡ self.old.door }
     {
         match self.next(w)? {

@@ -42,7 +42,7 @@ impl Worker {
         self.pass.learn(note)
     }
 
-    // Decides a request at the door of this number by one view, and says by how many changes.
+    /// Decides a request at the door of this number by one view, and says by how many changes.
     pub(crate) fn decide(
         &mut self,
         alloc: Global,
@@ -56,6 +56,7 @@ impl Worker {
         ensures err { OnErr result ((p : Place) → IsAt self.old p → p.door ≡ door → IsLeftBy p self.old self.new) }
         ensures later { BeginsWith self.old.pass.seen self.new.pass.seen }
         ensures fixed { self.new.pass.fixed ≡ self.old.pass.fixed }
+        ensures held { self.new.pass.seen ≡ self.old.pass.seen }
         ensures place { result ≡ Err OpenFault.Place → ⊥ }
     {
         let view = self.pass.read()?;

@@ -23,6 +23,7 @@ pieces-init g c = record {
   becomes = g.met.U.Upstream.becomes_self _;
   later = begins_itself _;
   fixed = refl;
+  held = refl;
   door = refl;
 }
 
@@ -89,5 +90,6 @@ pieces-preserved g c =
       becomes = g.met.U.Upstream.becomes_then _ _ _ c.pieces.invariant.becomes c.take.ensures.becomes;
       later = begins_then _ _ _ c.pieces.invariant.later c.take.ensures.later;
       fixed = c.take.ensures.fixed ∙ c.pieces.invariant.fixed;
+      held = c.take.ensures.held ∙ c.pieces.invariant.held;
       door = c.take.ensures.door ∙ c.pieces.invariant.door;
     }

@@ -24,6 +24,7 @@ turns-init g c = record {
   becomes = g.met.U.Upstream.becomes_self _;
   later = begins_itself _;
   fixed = refl;
+  held = refl;
   door = refl;
 }
 
@@ -76,5 +77,6 @@ turns-preserved g c = record {
   becomes = g.met.U.Upstream.becomes_then _ _ _ c.turns.invariant.becomes c.turn.ensures.becomes;
   later = begins_then _ _ _ c.turns.invariant.later c.turn.ensures.later;
   fixed = c.turn.ensures.fixed ∙ c.turns.invariant.fixed;
+  held = c.turn.ensures.held ∙ c.turns.invariant.held;
   door = c.turn.ensures.door ∙ c.turns.invariant.door;
 }

@@ -24,6 +24,7 @@ invariant-turns g l = record {
   becomes : g.U.Upstream.becomes l.fn.up l.up;
   later : BeginsWith l.fn.w.pass.seen l.w.pass.seen;
   fixed : l.w.pass.fixed ≡ l.fn.w.pass.fixed;
+  held : l.w.pass.seen ≡ l.fn.w.pass.seen;
   door : l.self.door ≡ l.fn.self.door;
 }
 
