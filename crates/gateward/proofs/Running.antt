@@ -1,9 +1,8 @@
 -- What a run wrote of the input that it read.
-use Rattle.std.proofs.Common.{◌≡◌, ◌∙◌, ℕ, ℤ, ◌<◌, ◌++◌, List, [], Option, Some, None, Ok, refl, sym, ap, if◌then◌else◌, unwrap_or, IfSome, append-nil, option_map}
-use Rattle.gw_link.specs.Faults.{HasRisen}
+use Rattle.std.proofs.Common.{◌≡◌, ◌∙◌, ℕ, ℤ, ◌<◌, ◌++◌, List, [], Option, Some, None, Ok, sym, ap, if◌then◌else◌, unwrap_or, IfSome, append-nil}
 use Rattle.gw_link.specs.Pieces.{Gives, IsAtEnd, Takes, TakesPart}
 use Rattle.gw_command.specs.Faults.{exit_code}
-use Rattle.gw_report.specs.Outputs.{IsOutput}
+use Rattle.gateward.specs.Outputs.{IsOutput}
 use Rattle.gateward.specs.Runs.{WritesText, WritesFront}
 use Rattle.gw_command.specs.Starts.{Setting, Starts}
 use Rattle.gw_command.specs.declared.fault.Fault.TheVariants.{WriteFailed}
@@ -17,7 +16,7 @@ read_whole (Some input) (Some rest) items gives end =
     (sym (append-nil items) ∙ ap (λ more. items ++ more) (sym end) ∙ sym (ap (λ (o : Option (List ℕ)). unwrap_or o []) gives), ap (λ (xs : List ℕ). Some xs) end)
 
 module _ (words : List (List ℕ)) (setting : Setting) (start : Starts words (Ok setting)) (items : List ℕ) (told : Option (List ℤ)) (output : Output)
-    (is : IsOutput setting items told output) (left after before written : Option (List ℕ)) (gives : Gives left items after) (end : IsAtEnd after) where
+    (is : IsOutput setting items told output.text output.refused) (left after before written : Option (List ℕ)) (gives : Gives left items after) (end : IsAtEnd after) where
   pub text_written : (code : ℕ) → (code < 2 → (Takes before output.text written) × (code ≡ (if output.refused then 1 else 0))) → code < 2
       → IfSome left (λ input. WritesText code words input told after before written)
   text_written code whole small = go left (read_whole left after items gives end)
@@ -29,11 +28,12 @@ module _ (words : List (List ℕ)) (setting : Setting) (start : Starts words (Ok
           rw (← all.0) (record {
             setting = setting;
             start = start;
-            moments = is.moments;
-            one_each = is.one_each;
+            text = output.text;
+            refused = output.refused;
+            output = is;
             read = all.1;
-            text = rw (← is.text) done.0;
-            ends = done.1 ∙ ap (λ b. if b then 1 else 0) is.refused;
+            takes = done.0;
+            ends = done.1;
           })
 
   pub front_written : (code : ℕ) → (code ≡ exit_code WriteFailed → (TakesPart before output.text written)) → code ≡ exit_code WriteFailed
@@ -46,7 +46,8 @@ module _ (words : List (List ℕ)) (setting : Setting) (start : Starts words (Ok
           rw (← all.0) (record {
             setting = setting;
             start = start;
-            moments = is.moments;
-            one_each = is.one_each;
-            text = rw (← is.text) (front failed);
+            text = output.text;
+            refused = output.refused;
+            output = is;
+            takes = front failed;
           })

@@ -1,7 +1,9 @@
 //! gateward: a Gateway API controller. `gateward status` reads watch events, one JSON object a line, and prints the
-//! statuses of the objects that are held after them; `gateward explain` prints what becomes of a request by them.
+//! statuses of the objects that are held after them; `gateward explain` prints what becomes of a request by them;
+//! `gateward replay` reads a script of events and connections, and prints what the connections are served.
 #![tactic(auto)]
 
+mod output;
 mod outside;
 mod run;
 

@@ -6,9 +6,10 @@ ghost use Rattle.gw_command.specs.Faults.{IsExitAtStart, exit_code, fault_line};
 ghost use Rattle.gw_command.specs.Starts.{Setting as PlainSetting, Starts};
 ghost use Rattle.gateward.specs.Runs.{IsExit, EndsAtStart, WritesText, WritesFront, WritesPiece};
 
+use crate::output::output_of;
 use gw_command::{Fault, start};
 use gw_link::{Clock, ReadFault, Sink, Source, read_all, write_all};
-use gw_report::{Output, output_of};
+use gw_report::Output;
 use std::alloc::Global;
 
 /// Runs the program on the words that follow its name, and gives its exit code: 0, or 1 where a line was refused, or
@@ -66,7 +67,7 @@ pub fn run<S: Source, K: Sink, C: Clock + Drop>(
         Err(ReadFault::TooLong) => return end(sink, Fault::TooLong),
         Err(ReadFault::NoMemory) => return end(sink, Fault::NoMemory),
     };
-    match output_of(alloc, &setting, input.as_slice(), &mut clock) {
+    match output_of(alloc, setting, input.as_slice(), &mut clock) {
         Ok(output) => finish(sink, &output),
         Err(_) => end(sink, Fault::NoMemory),
     }

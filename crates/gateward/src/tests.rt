@@ -11,6 +11,7 @@ mod faults;
 mod limits;
 mod references;
 mod runs;
+mod scripts;
 mod table;
 
 // What a run left: its exit code, what it wrote, and what it left of its input.

@@ -7,8 +7,8 @@ use Rattle.clap.specs.Kinds.{Kinds}
 use Rattle.clap.proofs.OnLiterals.{clap_on_literals}
 use Rattle.clap.proofs.WalkLemmas.{both}
 use Rattle.gw_text.specs.model.Chains.{◌>>=◌}
-use Rattle.gw_command.specs.Words.{status, status_app, explain, explain_app, controller_by, doors_of, doors_in, found_in, status_in, status_of, explain_in, explain_by, explain_of, command_of}
-use Rattle.gw_command.specs.Plain.{Plain, plain_words, is_plain, is_each_once, is_among, status_options, plain_status, explain_options, plain_explain, value_given, ReadsPlain}
+use Rattle.gw_command.specs.Words.{status, status_app, explain, explain_app, controller_by, doors_of, doors_in, found_in, status_in, status_of, explain_in, explain_by, explain_of, replay, replay_app, replay_in, replay_by, replay_of, command_of}
+use Rattle.gw_command.specs.Plain.{Plain, plain_words, is_plain, is_each_once, is_among, status_options, plain_status, explain_options, plain_explain, replay_options, plain_replay, value_given, ReadsPlain}
 use Rattle.gw_command.proofs.Tables.{IsOption, TakesDoors, option_row, door_rows, plain_taken, value_in_rows, doors_in_rows, none_is_door}
 
 -- what is so of the first name of a table, and of the others, is so of each
@@ -137,8 +137,63 @@ explain_read : (p : Plain) → is_plain explain_options p ≡ true → explain_o
 unfolding explain_of
 explain_read p plain = ap (λ found. found >>= explain_in) (explain_found p plain) ∙ explain_values p plain
 
+-- ---- replay
+
+abbrev for_replay : App
+for_replay = built replay_app
+
+replay_doors : TakesDoors for_replay.top
+replay_doors = record { by_index = refl; by_id = refl; again = refl; defaults = refl }
+
+replay_has_controller : IsOption for_replay.top.rules (codes "controller")
+unfolding clap_on_literals
+replay_has_controller = record {
+  needed = false;
+  by_long = refl;
+  by_id = refl;
+  joined = λ value. refl;
+  joined_dashes = λ value. refl;
+  no_door = refl;
+  apart = refl;
+  apart_dashes = refl;
+}
+
+replay_has_workers : IsOption for_replay.top.rules (codes "workers")
+unfolding clap_on_literals
+replay_has_workers = record {
+  needed = false;
+  by_long = refl;
+  by_id = refl;
+  joined = λ value. refl;
+  joined_dashes = λ value. refl;
+  no_door = refl;
+  apart = refl;
+  apart_dashes = refl;
+}
+
+replay_each : (P : Text → Type 0) → P (codes "controller") → P (codes "workers") → (name : Text) → is_among replay_options name ≡ true → P name
+replay_each P a b name = here P (codes "controller") name (codes "workers" ∷ []) a (here P (codes "workers") name [] b (nobody P name))
+
+replay_found : (p : Plain) → is_plain replay_options p ≡ true → found_in replay_app (codes "replay" ∷ plain_words p) ≡ Some (rows_in p)
+unfolding found_in
+replay_found p plain =
+    ap (λ (r : Kinds × List Row). if length r.0 == 0 then Some r.1 else None)
+    (plain_taken for_replay replay_options p replay_doors (replay_each (IsOption for_replay.top.rules) replay_has_controller replay_has_workers) plain refl)
+
+replay_values : (p : Plain) → is_plain replay_options p ≡ true → replay_in (rows_in p) ≡ plain_replay p
+replay_values p plain =
+    ap₂ (λ controller workers. replay_by controller workers (doors_in (rows_in p)))
+    (value_in_rows (codes "controller") p.options p.doors refl) (value_in_rows (codes "workers") p.options p.doors refl)
+    ∙ ap (replay_by (value_given (codes "controller") p.options) (value_given (codes "workers") p.options))
+    (others_of replay_options p (replay_each no_door refl refl) plain)
+
+replay_read : (p : Plain) → is_plain replay_options p ≡ true → replay_of (codes "replay" ∷ plain_words p) ≡ plain_replay p
+unfolding replay_of
+replay_read p plain = ap (λ found. found >>= replay_in) (replay_found p plain) ∙ replay_values p plain
+
 pub plain_is_read : (words : List Text) → ReadsPlain words
 plain_is_read words = record {
   status = λ p plain are. ap command_of are ∙ ap (option_map status) (status_read p plain);
   explain = λ p plain are. ap command_of are ∙ ap (option_map explain) (explain_read p plain);
+  replay = λ p plain are. ap command_of are ∙ ap (option_map replay) (replay_read p plain);
 }

@@ -1,16 +1,18 @@
 -- What the program is set to do by its words, and why it doesn't begin.
-use Rattle.std.specs.Prelude.{◌≡◌, ℕ, ◌<◌, ⊤, List, length, Option, Some, None, option_map, Result, Ok, Err}
+use Rattle.std.specs.Prelude.{◌≡◌, ℕ, ◌<◌, ◌≤◌, ⊤, List, length, Option, Some, None, option_map, Result, Ok, Err}
 use Rattle.gw_text.specs.model.Doors.{Door, DoorFault as DoorRule, too_many_doors, two_addresses, door_twice, door_fault}
 use Rattle.gw_frames.specs.model.Requests.{Request}
-use Rattle.gw_command.specs.Words.{Command, status, explain, command_of}
+use Rattle.gw_command.specs.Words.{Command, status, explain, replay, most_workers, command_of}
 use Rattle.gw_command.specs.Requests.{IsRequestOf}
 use Rattle.gw_command.specs.declared.fault.Fault.{Fault}
 use Rattle.gw_command.specs.declared.fault.Fault.TheVariants.{Usage, TooManyDoors, TwoAddresses, DoorTwice, NoMemory}
 
--- What is written of the objects: their statuses, or what becomes of a request at the door of this number.
+-- What is written of the objects: their statuses, what becomes of a request at the door of this number, or what the
+-- connections of a script are served by so many workers.
 pub data Task : Type 0 where
   a_status : Task
   an_explanation : ℕ → Request → Task
+  a_replay : ℕ → Task
 
 -- The name of the controller whose classes are ours, the doors, and the task.
 pub record Setting : Type 0 where
@@ -18,10 +20,11 @@ pub record Setting : Type 0 where
   pub doors : List Door
   pub task : Task
 
--- The door of the task's number is there.
-abbrev pub HasDoor : Task → List Door → Type 0
-HasDoor a_status doors = ⊤
-HasDoor (an_explanation at q) doors = at < length doors
+-- The task's numbers are within their bounds: the door is there, and there is a worker, and no more than there may be.
+abbrev pub IsWithin : Task → List Door → Type 0
+IsWithin a_status doors = ⊤
+IsWithin (an_explanation at q) doors = at < length doors
+IsWithin (a_replay workers) doors = (0 < workers) × (workers ≤ most_workers)
 
 -- The fault of doors that break a rule.
 abbrev pub broken : DoorRule → Fault
@@ -46,6 +49,7 @@ StartsBy (Some (status words)) start = start ≡ with_task words.controller word
 StartsBy (Some (explain words)) start =
     (q : Option Request) × IsRequestOf words.request q
     × (start ≡ with_task words.controller words.doors (option_map (an_explanation words.at) q))
+StartsBy (Some (replay words)) start = start ≡ with_task words.controller words.doors (Some (a_replay words.workers))
 
 -- The start of the words that follow the program's name, which is one only: they must be a command's, and then the doors must break no rule.
 unfoldable pub Starts : List (List ℕ) → Result Setting Fault → Type 0

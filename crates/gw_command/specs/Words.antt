@@ -1,5 +1,5 @@
 -- The commands and their words. Clap's own definitions say what it makes of the words of a command.
-use Rattle.std.specs.Prelude.{ℕ, List, [], ◌∷◌, ◌++◌, length, codes, bytes_eq, if◌then◌else◌, ◌==◌, Option, None, Some, option_map, unwrap_or}
+use Rattle.std.specs.Prelude.{ℕ, ◌+◌, List, [], ◌∷◌, ◌++◌, length, codes, bytes_eq, if◌then◌else◌, ◌==◌, Option, None, Some, option_map, unwrap_or}
 use Rattle.gw_text.specs.model.Chains.{◌>>=◌}
 use Rattle.gw_text.specs.model.Doors.{Door, door_of}
 use Rattle.clap.specs.Words.{Rule, Row, App, new_rule, new_app, with_rule, matches_of, fault_of, first_of, all_of}
@@ -19,10 +19,17 @@ pub record ExplainWords : Type 0 where
   pub request : List ℕ
   pub doors : List Door
 
+-- What `replay` is given: how many workers there are.
+pub record ReplayWords : Type 0 where
+  pub controller : List ℕ
+  pub workers : ℕ
+  pub doors : List Door
+
 -- A command with what it is given.
 pub data Command : Type 0 where
   status : StatusWords → Command
   explain : ExplainWords → Command
+  replay : ReplayWords → Command
 
 -- The controller whose GatewayClasses are this program's, where the words name no other.
 abbrev pub default_controller : List ℕ
@@ -45,6 +52,12 @@ abbrev pub explain_app : App
 explain_app =
     with_rule (with_rule (with_rule (with_rule (new_app (codes "explain")) (value_rule (codes "controller")))
     (value_rule (codes "at"))) (value_rule (codes "request"))) door_rule
+
+-- The words of `replay`: [--controller TEXT] [--workers N] [DOOR]...
+abbrev pub replay_app : App
+replay_app =
+    with_rule (with_rule (with_rule (new_app (codes "replay")) (value_rule (codes "controller")))
+    (value_rule (codes "workers"))) door_rule
 
 -- What clap finds in the words of a command, the command's name first, where it refuses none of them.
 unfoldable pub found_in : App → List (List ℕ) → Option (List Row)
@@ -109,10 +122,36 @@ explain_of words = do
   rows ← found_in explain_app words
   explain_in rows
 
+-- The most workers of a replay.
+abbrev pub most_workers : ℕ
+most_workers = 64
+
+-- The number of workers that is given, or 1; there is one at least.
+abbrev pub workers_by : Option (List ℕ) → Option ℕ
+workers_by given = number_below (most_workers + 1) (unwrap_or given (codes "1")) >>= λ n. if n == 0 then None else Some n
+
+-- What `replay` is given by the values of its options and the words of its DOORs.
+unfoldable pub replay_by : Option (List ℕ) → Option (List ℕ) → List (List ℕ) → Option ReplayWords
+replay_by controller workers doors = do
+  workers ← workers_by workers
+  doors ← doors_of doors
+  Some (record { controller = controller_by controller; workers = workers; doors = doors })
+
+-- What `replay` is given by what clap found.
+abbrev pub replay_in : List Row → Option ReplayWords
+replay_in rows = replay_by (first_of (codes "controller") rows) (first_of (codes "workers") rows) (doors_in rows)
+
+-- What `replay` is given by its words.
+unfoldable pub replay_of : List (List ℕ) → Option ReplayWords
+replay_of words = do
+  rows ← found_in replay_app words
+  replay_in rows
+
 -- The command of the words that follow the program's name, of which the first names it. There is none where the
 -- words aren't right.
 abbrev pub command_of : List (List ℕ) → Option Command
 command_of [] = None
 command_of (word ∷ words) =
     if bytes_eq word (codes "status") then option_map status (status_of (word ∷ words))
-    else (if bytes_eq word (codes "explain") then option_map explain (explain_of (word ∷ words)) else None)
+    else (if bytes_eq word (codes "explain") then option_map explain (explain_of (word ∷ words))
+    else (if bytes_eq word (codes "replay") then option_map replay (replay_of (word ∷ words)) else None))

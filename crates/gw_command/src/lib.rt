@@ -10,4 +10,6 @@ mod words;
 pub use fault::{Ending, Fault};
 pub use setting::{Setting, start};
 pub use task::Task;
-pub use words::{Command, DEFAULT_CONTROLLER, ExplainWords, StatusWords, UsageFault, read_words};
+pub use words::{
+    Command, DEFAULT_CONTROLLER, ExplainWords, ReplayWords, StatusWords, UsageFault, read_words,
+};

@@ -2,7 +2,7 @@ ghost use Rattle.std.specs.Prelude.{◌≡◌, ◌<◌, ◌⊎◌, Some, length,
 ghost use Rattle.gw_text.specs.model.Doors.{door_fault};
 ghost use Rattle.gw_command.specs.Faults.{IsExitAtStart, exit_code};
 ghost use Rattle.gw_command.specs.SeenTasks.{seen_task};
-ghost use Rattle.gw_command.specs.Starts.{HasDoor, IsSetting, IsStart, IsStartBy, with_rule};
+ghost use Rattle.gw_command.specs.Starts.{IsSetting, IsStart, IsStartBy, IsWithin, with_rule};
 ghost use Rattle.gw_command.specs.Words as commands;
 
 use crate::fault::Fault;
@@ -35,7 +35,7 @@ impl Model for Setting {
 #[tactic(auto, unfolding(crate::specs::Starts::Starts))]
 pub fn start(alloc: Global, words: &[String]) -> Result<Setting, Fault>
     ensures start { IsStart (map string_bytes words.now) result }
-    ensures door { IfOk result (λ s. HasDoor s.task s.doors) }
+    ensures within { IfOk result (λ s. IsWithin s.task s.doors) }
     ensures fault { IfErr result (λ fault. IsExitAtStart (exit_code fault) ⊎ (fault ≡ Fault.NoMemory)) }
 {
     match read_words(alloc, words) {
@@ -43,6 +43,10 @@ pub fn start(alloc: Global, words: &[String]) -> Result<Setting, Fault>
             with_doors(alloc, controller, doors, Task::Status)
         }
         Ok(Command::Explain(words)) => explanation(alloc, words),
+        Ok(Command::Replay(words)) => {
+            let task = Task::Replay(words.workers);
+            with_doors(alloc, words.controller, words.doors, task)
+        }
         Err(UsageFault::Usage) => Err(Fault::Usage),
         Err(UsageFault::NoMemory) => Err(Fault::NoMemory),
     }
@@ -52,7 +56,7 @@ pub fn start(alloc: Global, words: &[String]) -> Result<Setting, Fault>
 fn explanation(alloc: Global, words: ExplainWords) -> Result<Setting, Fault>
     requires { words.at < length words.doors }
     ensures start { IsStartBy (Some (commands.explain words)) result }
-    ensures door { IfOk result (λ s. HasDoor s.task s.doors) }
+    ensures within { IfOk result (λ s. IsWithin s.task s.doors) }
     ensures fault { IfErr result (λ fault. IsExitAtStart (exit_code fault) ⊎ (fault ≡ Fault.NoMemory)) }
 {
     match whole_request(alloc, words.request.as_slice()) {
@@ -72,7 +76,7 @@ fn with_doors(
     task: Task,
 ) -> Result<Setting, Fault>
     ensures start { IsSetting (with_rule (door_fault doors.items) controller doors.items (seen_task task)) result }
-    ensures door { HasDoor (seen_task task) doors.items → IfOk result (λ s. HasDoor s.task s.doors) }
+    ensures within { IsWithin (seen_task task) doors.items → IfOk result (λ s. IsWithin s.task s.doors) }
     ensures fault { IfErr result (λ fault. IsExitAtStart (exit_code fault) ⊎ (fault ≡ Fault.NoMemory)) }
 {
     match Doors::new(alloc, doors) {

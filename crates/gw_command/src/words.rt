@@ -1,7 +1,7 @@
-ghost use Rattle.std.specs.Prelude.{◌≡◌, ◌<◌, true, false, codes, length, IfOk, map, option_map, string_bytes};
+ghost use Rattle.std.specs.Prelude.{◌≡◌, ◌<◌, ◌≤◌, true, false, codes, length, IfOk, map, option_map, string_bytes};
 ghost use Rattle.clap.specs.Words.{app_of, rule_of, all_of, first_of, found_of, is_simple, rows_of};
 ghost use Rattle.clap.specs.Faults.{is_simple_and_free};
-ghost use Rattle.gw_command.specs.Readings.{HasDoor, Reads, seen};
+ghost use Rattle.gw_command.specs.Readings.{IsWithin, Reads, seen};
 ghost use Rattle.gw_text.specs.model.Doors.{door_of};
 ghost use Rattle.gw_command.specs.Plain.{ReadsPlain};
 ghost use Rattle.gw_command.specs.Words as words_of;
@@ -15,6 +15,9 @@ use std::marker::Model;
 
 /// The controller whose GatewayClasses are this program's, where the words name no other.
 pub const DEFAULT_CONTROLLER: &str = "gateward.example/controller";
+
+// The most workers of a replay.
+const MOST_WORKERS: usize = 64;
 
 /// Why words are not read.
 #[derive(Clone, Copy, Debug, PartialEq, Eq, Drop)]
@@ -83,6 +86,25 @@ impl Model for ExplainWords {
     ghost view = { λ s. record { controller = s.controller; at = s.at; request = s.request.items; doors = s.doors.items } };
 }
 
+/// What `replay` is given: `[--controller TEXT] [--workers N] [DOOR]...`.
+#[derive(Drop)]
+pub struct ReplayWords {
+    /// The controller of the GatewayClasses that are this program's.
+    pub controller: Text,
+    /// How many workers there are.
+    pub workers: usize,
+    /// The DOORs, in the order in which they are given.
+    pub doors: Vec<Door>,
+}
+
+impl Model for ReplayWords {
+    ghost use Rattle.gw_command.specs.Words.{ReplayWords as Plain};
+
+    ghost Value = { Plain };
+
+    ghost view = { λ s. record { controller = s.controller; workers = s.workers; doors = s.doors.items } };
+}
+
 /// A command with what it is given.
 #[derive(Drop)]
 pub enum Command {
@@ -90,13 +112,15 @@ pub enum Command {
     Status(StatusWords),
     /// Prints what becomes of a request at a door, by the objects that lines of events put.
     Explain(ExplainWords),
+    /// Prints what the connections of a script are served, by the objects that its events put.
+    Replay(ReplayWords),
 }
 
 /// The command of the words that follow the program's name. Help and the version are usage faults too.
 #[tactic(auto, using(crate::proofs::Plain::plain_is_read))]
 pub fn read_words(alloc: Global, words: &[String]) -> Result<Command, UsageFault>
     ensures value { Reads seen (words_of.command_of (map string_bytes words.now)) result }
-    ensures door { IfOk result HasDoor }
+    ensures within { IfOk result IsWithin }
     ensures plain { ReadsPlain (map string_bytes words.now) }
 {
     match words {
@@ -104,6 +128,7 @@ pub fn read_words(alloc: Global, words: &[String]) -> Result<Command, UsageFault
         [name, ..] if name.as_str() == "explain" => Ok(Command::Explain(read_explain(
             alloc, words,
         )?)),
+        [name, ..] if name.as_str() == "replay" => Ok(Command::Replay(read_replay(alloc, words)?)),
         _ => Err(UsageFault::Usage),
     }
 }
@@ -125,6 +150,16 @@ fn read_explain(alloc: Global, words: &[String]) -> Result<ExplainWords, UsageFa
     explain_words(alloc, &matches)
 }
 
+#[tactic(auto, unfolding(crate::specs::Words::replay_of))]
+fn read_replay(alloc: Global, words: &[String]) -> Result<ReplayWords, UsageFault>
+    ensures value { Reads (λ s. s) (words_of.replay_of (map string_bytes words.now)) result }
+    ensures some { IfOk result (λ s. 0 < s.workers) }
+    ensures few { IfOk result (λ s. s.workers ≤ words_of.most_workers) }
+{
+    let matches = matches_for(replay_command(alloc)?, words)?;
+    replay_words(alloc, &matches)
+}
+
 fn status_command<'a>(alloc: Global) -> Result<clap::Command<'a>, AllocError>
     ensures { IfOk result (λ c. app_of c ≡ words_of.status_app) }
 {
@@ -141,6 +176,15 @@ fn explain_command<'a>(alloc: Global) -> Result<clap::Command<'a>, AllocError>
         .arg(value(alloc, "controller"))?
         .arg(value(alloc, "at"))?
         .arg(value(alloc, "request"))?
+        .arg(door(alloc))
+}
+
+fn replay_command<'a>(alloc: Global) -> Result<clap::Command<'a>, AllocError>
+    ensures { IfOk result (λ c. app_of c ≡ words_of.replay_app) }
+{
+    clap::Command::new(alloc, "replay")
+        .arg(value(alloc, "controller"))?
+        .arg(value(alloc, "workers"))?
         .arg(door(alloc))
 }
 
@@ -203,6 +247,22 @@ fn explain_words(alloc: Global, matches: &ArgMatches<'_>) -> Result<ExplainWords
     })
 }
 
+#[tactic(auto, unfolding(crate::specs::Words::replay_by))]
+fn replay_words(alloc: Global, matches: &ArgMatches<'_>) -> Result<ReplayWords, UsageFault>
+    ensures value { Reads (λ s. s) (words_of.replay_in (rows_of (found_of matches.now))) result }
+    ensures some { IfOk result (λ s. 0 < s.workers) }
+    ensures few { IfOk result (λ s. s.workers ≤ words_of.most_workers) }
+{
+    let workers = workers(matches)?;
+    let doors = doors(alloc, matches)?;
+    let controller = controller(alloc, matches)?;
+    Ok(ReplayWords {
+        controller,
+        workers,
+        doors,
+    })
+}
+
 fn request(alloc: Global, matches: &ArgMatches<'_>) -> Result<Vec<u8>, UsageFault>
     ensures { Reads (λ v. v.items) (words_of.request_by (first_of (codes "request") (rows_of (found_of matches.now)))) result }
 {
@@ -218,6 +278,18 @@ fn at(matches: &ArgMatches<'_>, doors: usize) -> Result<usize, UsageFault>
 {
     let text = value_of(matches, "at").unwrap_or("0");
     number_below(doors, text).ok_or(UsageFault::Usage)
+}
+
+fn workers(matches: &ArgMatches<'_>) -> Result<usize, UsageFault>
+    ensures value { Reads (λ n. n) (words_of.workers_by (first_of (codes "workers") (rows_of (found_of matches.now)))) result }
+    ensures some { IfOk result (λ n. 0 < n) }
+    ensures few { IfOk result (λ n. n ≤ words_of.most_workers) }
+{
+    let text = value_of(matches, "workers").unwrap_or("1");
+    match number_below(MOST_WORKERS + 1, text) {
+        Some(number) if number > 0 => Ok(number),
+        _ => Err(UsageFault::Usage),
+    }
 }
 
 fn controller(alloc: Global, matches: &ArgMatches<'_>) -> Result<Text, AllocError>

@@ -26,8 +26,8 @@ fn with_doors(alloc: Global, mut answer: String, doors: &[Door]) -> Result<Strin
     Ok(answer)
 }
 
-// What a line of words is read as: `usage`, or between `|` the controller, of `explain` the number and the bytes too, and
-// each DOOR.
+// What a line of words is read as: `usage`, or between `|` the controller, of `explain` the number and the bytes too, of
+// `replay` the number of workers, and each DOOR.
 fn answer(alloc: Global, line: &str) -> Result<String, Fail> {
     let words = words(alloc, line)?;
     match read_words(alloc, words.as_slice()) {
@@ -39,6 +39,11 @@ fn answer(alloc: Global, line: &str) -> Result<String, Fail> {
             let controller = given.controller.printed(alloc)?;
             let bytes = Text::from_vec(given.request).printed(alloc)?;
             let answer = format!(in alloc; "{controller}|{}|{bytes}", given.at)?;
+            with_doors(alloc, answer, given.doors.as_slice())
+        }
+        Ok(Command::Replay(given)) => {
+            let controller = given.controller.printed(alloc)?;
+            let answer = format!(in alloc; "{controller}|{}", given.workers)?;
             with_doors(alloc, answer, given.doors.as_slice())
         }
         Err(UsageFault::Usage) => Ok(String::from_str(alloc, "usage")?),
@@ -72,7 +77,13 @@ gateward.example/controller|0||a/b:80=127.0.0.1:8080
 explain a/b:80=127.0.0.1:8080 --at 1 --controller=y --request "\u0020A\u00ff" c/d:443=127.0.0.2:0
 y|1| Aÿ|a/b:80=127.0.0.1:8080|c/d:443=127.0.0.2:0
 explain --at=0 --request "é" a/b:80=127.0.0.1:8080
-gateward.example/controller|0|é|a/b:80=127.0.0.1:8080"#;
+gateward.example/controller|0|é|a/b:80=127.0.0.1:8080
+replay
+gateward.example/controller|1
+replay --workers 64
+gateward.example/controller|64
+replay a/b:80=127.0.0.1:8080 --workers=7 --controller x c/d:443=127.0.0.2:0
+x|7|a/b:80=127.0.0.1:8080|c/d:443=127.0.0.2:0"#;
 
 #[test]
 fn words_that_are_taken(rt: HostRuntime) -> Result<(), Fail> {
@@ -85,7 +96,22 @@ fn words_that_are_taken(rt: HostRuntime) -> Result<(), Fail> {
 
 // Lines of words that are refused.
 const REFUSED: &str = r#"
-replay
+replay --workers
+replay --workers 0
+replay --workers 65
+replay --workers 01
+replay --workers +1
+replay --workers 1.0
+replay --workers=
+replay --workers 18446744073709551617
+replay --workers 1 --workers 1
+replay --at 0 a/b:80=127.0.0.1:8080
+replay --request "x" a/b:80=127.0.0.1:8080
+replay a/b:80=127.0.0.1:8080 c/d
+replay --polled
+replays
+status --workers 1
+explain --workers 1 --request "x" a/b:80=127.0.0.1:8080
 Status
 statu
 status --controller

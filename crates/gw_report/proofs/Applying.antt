@@ -6,14 +6,15 @@ use Rattle.gw_json.specs.declared.refusal.Refusal.{Refusal}
 use Rattle.gw_json.specs.declared.refusal.Refusal.TheVariants.{NotJson, NotEvent, Missing, WrongType, BadValue, TooLong, Full, NoMemory}
 use Rattle.gw_json.specs.Lines.{line_of}
 use Rattle.gw_json.specs.Words.{Fails}
+use Rattle.gw_frames.specs.model.Requests.{Request}
+use Rattle.gw_text.specs.model.Doors.{Door}
 use Rattle.gw_text.specs.model.Objects.{Event, Change}
 use Rattle.gw_text.specs.model.World.{World, nothing, is_full, apply, world_of, after_changes}
 use Rattle.gw_link.specs.Moments.{Ticks, TicksInTurn}
 use Rattle.gw_store.specs.Events.{Read, a_change, is_skipped, read_of, answer}
 use Rattle.gw_report.specs.Lines.{is_blank}
 use Rattle.gw_report.specs.EventLines.{LineResults, Refused, is_event_line, refused_by, with_line, with_answer, results_after}
-use Rattle.gw_report.specs.RunText.{refused_data, refused_text, task_text, results_text}
-use Rattle.gw_command.specs.Starts.{Setting}
+use Rattle.gw_report.specs.RunText.{refused_data, refused_text, status_text, status_results_text, explanation_text, explanation_results_text}
 use Rattle.gw_report.specs.Reports.{Tells, Applies, Takes, Refuses, world_with, skips}
 use Rattle.gw_report.specs.declared.report.Report.{Report}
 
@@ -34,7 +35,7 @@ unfolding answer
 answers_change w line event read room = rw (read, room) refl
 
 -- the world of one change more
-world_after : (w : World) (cs : List Change) (c : Change) → after_changes w (cs ++ c ∷ []) ≡ apply (after_changes w cs) c
+pub world_after : (w : World) (cs : List Change) (c : Change) → after_changes w (cs ++ c ∷ []) ≡ apply (after_changes w cs) c
 world_after w [] c = refl
 world_after w (d ∷ cs) c = world_after (apply w d) cs c
 
@@ -83,7 +84,7 @@ module _ (number : ℕ) (line : List ℕ) (now : ℤ) {before after : Option (Li
   }))
 
 -- a clock that was read in turn is read on
-in_turn_on : (before between after : Option (List ℤ)) (first second : List ℤ) → TicksInTurn before first between → TicksInTurn between second after → TicksInTurn before (first ++ second) after
+pub in_turn_on : (before between after : Option (List ℤ)) (first second : List ℤ) → TicksInTurn before first between → TicksInTurn between second after → TicksInTurn before (first ++ second) after
 in_turn_on before between after [] second here later = rw (← here) later
 in_turn_on before between after (now ∷ first) second here later = (here.0, (here.1.0, in_turn_on here.0 between after first second here.1.1 later))
 
@@ -121,8 +122,12 @@ pub left_size-shorter : (left : Option (Bor (List ℕ))) (text : List ℕ) → I
 left_size-shorter None text shorter = omega arith
 left_size-shorter (Some rest) text shorter = omega arith
 
--- what a report tells is the text of what came of the lines
-pub text_told : (setting : Setting) (o : LineResults) (report : Report) → Tells o report →
-    string_bytes report.text ++ task_text setting report.world.world report.world.world.changes report.refused report.skipped setting.task ≡ results_text setting o
-unfolding results_text
-text_told setting o report told = rw (told.text, told.world, told.refused, told.skipped, changes_all o.changes) refl
+module _ (doors : List Door) (controller : List ℕ) (o : LineResults) (report : Report) (told : Tells o report) where
+  -- what a report tells is the text of what came of the lines
+  pub status_told : string_bytes report.text ++ status_text doors controller report.world.world report.world.world.changes report.refused report.skipped ≡ status_results_text doors controller o
+  unfolding status_results_text
+  status_told = rw (told.text, told.world, told.refused, told.skipped, changes_all o.changes) refl
+
+  pub explanation_told : (at : ℕ) (q : Request) → string_bytes report.text ++ explanation_text doors controller report.world.world report.world.world.changes at q ≡ explanation_results_text doors controller at q o
+  unfolding explanation_results_text
+  explanation_told at q = rw (told.text, told.world, changes_all o.changes) refl

@@ -1,5 +1,5 @@
-//! What an input of events gives: the lines that are refused, and then the text of the task over the objects that are held
-//! after it.
+//! What an input of events gives: the lines that are refused, and then the statuses of the objects that are held after it, or
+//! what becomes of a request by them.
 #![tactic(auto)]
 
 mod explanation;
@@ -9,6 +9,8 @@ mod print;
 mod report;
 mod status;
 
+pub use explanation::explanation_output;
 pub use lines::{first_line, is_blank};
-pub use output::{Output, output_of};
+pub use output::Output;
 pub use print::refused_value;
+pub use status::status_output;

@@ -1,20 +1,23 @@
-ghost use Rattle.std.specs.Prelude.{◌≡◌, IfOk};
+ghost use Rattle.std.specs.Prelude.{◌≡◌, option_map, IfOk};
 ghost use Rattle.serde_json.specs.View.{view};
-ghost use Rattle.gw_report.specs.EventLines.{refused_by};
-ghost use Rattle.gw_report.specs.RunText.{refused_data, summary_data};
+ghost use Rattle.gw_report.specs.RunText.{refused_object, summary_data};
 
-use gw_json::Refusal;
 use gw_text::NoMemory;
 use serde_json::{Value, json};
 use std::alloc::Global;
 
-/// A refused line.
-pub fn refused_value(alloc: Global, line: u64, refusal: &Refusal) -> Result<Value, NoMemory>
-    ensures { IfOk result (λ v. view v ≡ refused_data (refused_by line refusal.now)) }
+/// What is printed of a refused line: its number, that of the refusal, and the path of the field that the refusal names.
+pub fn refused_value(
+    alloc: Global,
+    line: u64,
+    number: u8,
+    path: Option<&str>,
+) -> Result<Value, NoMemory>
+    ensures { IfOk result (λ v. view v ≡ refused_object line number (option_map (λ p. p.now) path)) }
 {
-    let number = u64::from(refusal.number());
-    match refusal.path() {
-        Some(path) => { json!(in alloc; {"line": line, "path": path.as_str(), "refusal": number}) }
+    let number = u64::from(number);
+    match path {
+        Some(path) => json!(in alloc; {"line": line, "path": path, "refusal": number}),
         None => json!(in alloc; {"line": line, "refusal": number}),
     }
 }

@@ -9,7 +9,7 @@ ghost use Rattle.gw_report.specs.Reports.{Applies, IsReport, Takes, Refuses};
 
 use crate::lines::{first_line, is_blank};
 use crate::print::refused_value;
-use gw_json::{Refusal, push_line};
+use gw_json::{Path, Refusal, push_line};
 use gw_link::{Clock, MOST_INPUT};
 use gw_store::{Event, Read, World, read_event};
 use gw_text::{NoMemory, Second};
@@ -118,7 +118,8 @@ fn refuse(
     if matches!(refusal, Refusal::NoMemory) {
         return Err(NoMemory);
     }
-    let value = refused_value(alloc, number, refusal)?;
+    let path = refusal.path().map(Path::as_str);
+    let value = refused_value(alloc, number, refusal.number(), path)?;
     push_line(alloc, &mut report.text, &value)?;
     report.refused += 1;
     Ok(())

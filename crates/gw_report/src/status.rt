@@ -1,48 +1,69 @@
-ghost use Rattle.std.specs.Prelude.{◌≡◌, ◌<◌, ◌++◌, IfOk, string_bytes};
+ghost use Rattle.std.specs.Prelude.{◌≡◌, ◌<◌, ◌≤◌, ◌++◌, length, IfOk, string_bytes};
 ghost use Rattle.gw_text.specs.model.Statuses.{statuses_of};
 ghost use Rattle.gw_json.specs.Lines.{line_of};
+ghost use Rattle.gw_link.specs.declared.source.TheConstants.{MOST_INPUT};
+ghost use Rattle.gw_report.specs.Outputs.{IsOutputBy};
 ghost use Rattle.gw_report.specs.RunText as texts;
 
+use crate::output::Output;
 use crate::print::summary_value;
-use crate::report::Report;
-use gw_command::Setting;
+use crate::report::{Report, apply_lines};
 use gw_eval::eval_all;
 use gw_json::push_line;
+use gw_link::{Clock, MOST_INPUT};
 use gw_status::{Statuses, push_statuses};
 use gw_store::World;
-use gw_text::{NoMemory, Steps, Text};
+use gw_text::{Doors, NoMemory, Steps, Text};
 use std::alloc::Global;
 use std::marker::Brand;
 use std::sync::ledger::{Blank, Ledger};
 
+/// What `status` writes of an input: its refused lines, the statuses of the objects that are held after it, and the summary.
+pub fn status_output<C: Clock>(
+    alloc: Global,
+    doors: &Doors,
+    controller: &Text,
+    input: &[u8],
+    clock: &mut C,
+) -> Result<Output, NoMemory>
+    requires { length input.now ≤ MOST_INPUT }
+    ensures { IfOk result (λ output.
+        IsOutputBy (texts.status_results_text doors.now controller.now) input.now (C.moments clock.old) output.text output.refused) }
+{
+    let report = apply_lines(alloc, input, clock)?;
+    let refused = report.refused > 0;
+    let text = status_text(alloc, doors, controller, report)?;
+    Ok(Output { text, refused })
+}
+
 // The statuses of a world. Nobody asks for the steps that they take.
 fn statuses<L: Ledger>(
     alloc: Global,
-    setting: &Setting,
+    doors: &Doors,
+    controller: &Text,
     world: &World,
     blank: Blank,
 ) -> Result<Statuses, NoMemory>
     requires name { blank.name ≡ L.name }
     requires parts { blank.parts ≡ L.parts }
     requires positive { 0 < L.parts }
-    ensures { IfOk result (λ all. all ≡ statuses_of setting.now.doors setting.now.controller world.now.world) }
+    ensures { IfOk result (λ all. all ≡ statuses_of doors.now controller.now world.now.world) }
 {
     let mut steps: Steps<L> = Steps::open(blank);
-    eval_all(
-        alloc,
-        world,
-        &setting.doors,
-        &setting.controller,
-        &mut steps,
-    )
+    eval_all(alloc, world, doors, controller, &mut steps)
 }
 
-/// The refused lines, the statuses of the objects that are held, and the summary.
-pub fn status_text(alloc: Global, setting: &Setting, report: Report) -> Result<Text, NoMemory>
+// The refused lines, the statuses of the objects that are held, and the summary.
+fn status_text(
+    alloc: Global,
+    doors: &Doors,
+    controller: &Text,
+    report: Report,
+) -> Result<Text, NoMemory>
     ensures { IfOk result (λ text. text ≡ string_bytes report.text
-        ++ texts.status_text setting.now report.world.world report.world.world.changes report.refused report.skipped) }
+        ++ texts.status_text doors.now controller.now report.world.world report.world.world.changes report.refused report.skipped) }
 {
-    let statuses = statuses::<Brand>(alloc, setting, &report.world, Blank::new(1))?;
+    let statuses = statuses::<Brand>(alloc, doors, controller, &report.world, Blank::new(1))?;
     let summary = summary_line(alloc, &report)?;
     let mut text = report.text;
     push_statuses(alloc, &statuses, &mut text)?;

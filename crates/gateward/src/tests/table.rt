@@ -1,7 +1,7 @@
 //! Runs as tables have them. The first sign of a line says what it is: `#` begins a case, without input; `<` is a line of
-//! the input; `$` has the words, and `&` is a word more as it stands; `>` is a line of the text; `~` stands in the text, after
-//! what stood there before; at `=`, with the exit code, the program runs. Lines that `LINES` names stand for the line there,
-//! with what follows the name in place of `%`.
+//! the input, and `!` the line of an event in a script; `$` has the words, and `&` is a word more as it stands; `>` is a line of
+//! the text; `~` stands in the text, after what stood there before; at `=`, with the exit code, the program runs. Lines that
+//! `LINES` names stand for the line there, with what follows the name in place of `%`.
 use super::{Ran, run_over};
 use gw_link::{MemSink, MemSource};
 use gw_text::NoMemory;
@@ -34,6 +34,16 @@ ROUTE_STATUS {"kind":"HTTPRoute","name":"r","namespace":"default","status":{"par
 FAULT {"fault":"%"}
 SUMMARY {"changes":%}
 REASON {"reason":%}
+FRONT {"front":%
+CONN {"conn":"c","front":%
+SERVED {"backend":"default/s:80","conn":"c","endpoint":"10.0.0.1:8080","forward":"GET /a HTTP/1.1\r\nhost: x\r\nvia: 1.1 gateward\r\nconnection: close\r\n\r\n","front":%
+SERVED_OTHER {"backend":"other/t:80","conn":"c","endpoint":"10.0.0.2:8080","forward":"GET /a HTTP/1.1\r\nhost: x\r\nvia: 1.1 gateward\r\nconnection: close\r\n\r\n","front":%
+REFUSED_REF {"backend":"other/t:80","conn":"c","fault":"RefNotPermitted","front":%
+FAULTY {"backend":"default/s:80","conn":"c","endpoint":"10.0.0.1:8080","fault":"%
+WRITTEN_OK {"conn":"c","line":%,"written":"HTTP/1.1 200 OK\r\ncontent-length: 13\r\n\r\n10.0.0.1:8080"}
+WRITTEN_404 {"conn":"c","line":%,"written":"HTTP/1.1 404 Not Found\r\ncontent-length: 0\r\n\r\n"}
+WRITTEN_HALF {"conn":"c","line":%,"written":"HTTP/1.1 200 OK\r\ncontent-length: 13\r\n\r\n10.0.0.1:8080HTTP/1.1 500 Internal Server Error\r\nx-gateward-fault: RefNotPermitted\r\ncontent-length: 0\r\n\r\n"}
+WRITTEN_BOTH {"conn":"c","line":%,"written":"HTTP/1.1 200 OK\r\ncontent-length: 13\r\n\r\n10.0.0.1:8080HTTP/1.1 200 OK\r\ncontent-length: 13\r\n\r\n10.0.0.2:8080"}
 VERDICT {"backends":[{"state":"Ready","weight":1}],"front":5,"listener":"http","match":0,"route":"default/r","rule":0,"verdict":"Choose"}"#;
 
 // A case as far as it has come.
@@ -101,6 +111,10 @@ fn take(alloc: Global, case: &mut Case, mark: &str, rest: &str) -> Result<(), No
         "$" => put_words(alloc, &mut case.words, rest),
         "&" => Ok(case.words.push(String::from_str(alloc, rest)?)?),
         "<" => put_line(&mut case.input, rest),
+        "!" => {
+            case.input.push_str("event ")?;
+            put_line(&mut case.input, rest)
+        }
         ">" => put_line(&mut case.text, rest),
         _ => put_line(&mut case.parts, rest),
     }

@@ -11,6 +11,6 @@ returns c =
     let w = c.args.world.now.world in
     let q = c.args.request.now in
     IfOk-weaker c.write_explain.result _ _ (λ text is.
-    rw (← c.setting.view_is) (at_door _ c.args.door (λ d. explain_text (rows_of _ _ w d) q w.changes) text (rw (← c.setting.view_is) at c.requires)
+    at_door _ c.args.door (λ d. explain_text (rows_of _ _ w d) q w.changes) text c.requires
     (λ d. is ∙ ap (λ rows. explain_text rows q c.changes.result) (c.in_ok-table.ensures ∙ c.in_ok-rows.ensures d)
-    ∙ ap (explain_text (rows_of _ _ w _) q) c.changes.ensures))) c.write_explain.ensures
+    ∙ ap (explain_text (rows_of _ _ w _) q) c.changes.ensures)) c.write_explain.ensures
