@@ -13,7 +13,7 @@ pub fn refused_value(
     number: u8,
     path: Option<&str>,
 ) -> Result<Value, NoMemory>
-    ensures { IfOk result (λ v. view v ≡ refused_object line number (option_map (λ p. p.now) path)) }
+    ensures { IfOk result (λ v. view v ≡ refused_object line number (option_map (λ p. p.now) path.entry)) }
 {
     let number = u64::from(number);
     match path {

@@ -16,6 +16,7 @@ use gw_store::World;
 use gw_text::{Doors, NoMemory, Steps, Text};
 use std::alloc::Global;
 use std::marker::Brand;
+use std::mem;
 use std::sync::ledger::{Blank, Ledger};
 
 /// What `status` writes of an input: its refused lines, the statuses of the objects that are held after it, and the summary.
@@ -65,9 +66,16 @@ fn status_text(
 {
     let statuses = statuses::<Brand>(alloc, doors, controller, &report.world, Blank::new(1))?;
     let summary = summary_line(alloc, &report)?;
-    let mut text = report.text;
+    let Report {
+        world,
+        mut text,
+        ..
+    } = report;
     push_statuses(alloc, &statuses, &mut text)?;
     text.push_str(summary.as_str())?;
+    // The program ends behind this text; to give back each object by itself would take as long as to write it.
+    mem::forget(world);
+    mem::forget(statuses);
     Ok(Text::from_vec(text.into_bytes()))
 }
 

@@ -1,10 +1,10 @@
 mod Counts
-mod Deciding
+pub mod Deciding
 mod Ends
-mod Going
-mod Parts
+pub mod Going
+pub mod Parts
 mod Serving
 mod Stepping
 mod Exchanging
-mod Turning
-mod Linking
+pub mod Turning
+pub mod Linking

@@ -1,0 +1,9 @@
+pub mod Counting
+pub mod Endpoints
+pub mod Floats
+pub mod Keeping
+pub mod Pairing
+pub mod Running
+pub mod Sending
+pub mod Serving
+pub mod Stepping

@@ -1,0 +1,216 @@
+-- What comes of a piece.
+use Rattle.std.proofs.Common.{◌≡◌, ◌∙◌, ℕ, ◌<◌, ◌≤◌, Bool, List, [], ◌∷◌, ◌++◌, length, map, set, drop, Some, refl, sym, subst, ap, arith, append_assoc, length-append, slice_get, get_or, ◌==◌}
+use Rattle.std.specs.Arc.{arc_value}
+use Rattle.std.proofs.lemmas.Option.{slice_get-get_or}
+use Rattle.gw_answers.specs.model.ServedRows.{ServedRow}
+use Rattle.gw_frames.specs.model.Requests.{ended}
+use Rattle.gw_link.specs.Exchanges.{Exchange}
+use Rattle.gw_link.specs.Upstreams.{Becomes, UpstreamState}
+use Rattle.gw_snap.specs.Lists.{BeginsWith, Seen}
+use Rattle.gw_store.specs.declared.event.Entry.{Entry}
+use Rattle.gw_text.specs.model.Doors.{Door}
+use Rattle.gw_worker.proofs.Deciding.{begins_itself}
+use Rattle.gw_worker.proofs.Going.{begins_then}
+use Rattle.gw_worker.proofs.Linking.{calm, ended_served}
+use Rattle.gw_worker.proofs.Parts.{rows_append}
+use Rattle.gw_worker.proofs.Turning.{settled}
+use Rattle.gw_worker.specs.Conns.{AreServed, AreWhole, IsAllOf, IsServing, StandsFor}
+use Rattle.gw_worker.specs.Flows.{Flows, Served, Took, outside}
+use Rattle.gw_worker.specs.Workers.{Decided, IsAt}
+use Rattle.gw_worker.specs.declared.conn.Conn.{Conn}
+use Rattle.gw_worker.specs.declared.take.Flow.{Flow}
+use Rattle.gw_worker.specs.declared.take.Flow.TheVariants as flows
+use Rattle.gw_worker.specs.declared.worker.Worker.{Worker}
+use Rattle.gw_worker.specs.model.Sessions.{Part, Place, a_close, a_cut, a_refused, a_request, a_wait, rows_of, step_of}
+use Rattle.gw_replay.specs.Lines.{end_text, rows_text, written_text}
+use Rattle.gw_replay.specs.Replays.{AreDecidedBy, Client as Plain, Serves, Site, State, place_at}
+use Rattle.gw_replay.specs.States.{IsClient, Keeps, ending_of, site_of}
+use Rattle.gw_replay.specs.declared.replay.Client.{Client}
+use Rattle.gw_replay.specs.declared.replay.Replay.{Replay}
+use Rattle.gw_replay.specs.Pairs.{paired_text}
+use Rattle.gw_replay.proofs.Keeping.{begins_both, seen_at}
+use Rattle.gw_replay.proofs.Pairing.{all_paired}
+
+-- what a pass has seen only grows
+decided_later : (p : Place) (parts : List Part) (a b : Worker) → Decided p a b parts → BeginsWith a.pass.seen b.pass.seen
+decided_later p [] a b d = subst (λ (w : Worker). BeginsWith a.pass.seen w.pass.seen) (sym d) (begins_itself a.pass.seen)
+decided_later p (a_request q h ∷ parts) a b d =
+    begins_then a.pass.seen d.0.pass.seen b.pass.seen (subst (λ (list : List Entry). BeginsWith a.pass.seen list) (sym d.1.0.seen) d.1.0.later) (decided_later p parts d.0 b d.1.1)
+decided_later p (a_wait ∷ parts) a b d = decided_later p parts a b d
+decided_later p (a_refused code ∷ parts) a b d = decided_later p parts a b d
+decided_later p (a_close ∷ parts) a b d = decided_later p parts a b d
+decided_later p (a_cut ∷ parts) a b d = decided_later p parts a b d
+
+-- where it has not grown, each request was decided by it
+decided_by : (p : Place) (parts : List Part) (list : List Entry) (a b : Worker) → a.pass.seen ≡ list → b.pass.seen ≡ list → Decided p a b parts → AreDecidedBy list parts
+decided_by p [] list a b before after d = tt
+decided_by p (a_request q h ∷ parts) list a b before after d =
+    let first : BeginsWith list d.0.pass.seen = subst (λ (l : List Entry). BeginsWith l d.0.pass.seen) before (subst (λ (l : List Entry). BeginsWith a.pass.seen l) (sym d.1.0.seen) d.1.0.later) in
+    let second : BeginsWith d.0.pass.seen list = subst (λ (l : List Entry). BeginsWith d.0.pass.seen l) after (decided_later p parts d.0 b d.1.1) in
+    let same : d.0.pass.seen ≡ list = begins_both list d.0.pass.seen first second in
+    (sym d.1.0.seen ∙ same, decided_by p parts list d.0 b same after d.1.1)
+decided_by p (a_wait ∷ parts) list a b before after d = decided_by p parts list a b before after d
+decided_by p (a_refused code ∷ parts) list a b before after d = decided_by p parts list a b before after d
+decided_by p (a_close ∷ parts) list a b before after d = decided_by p parts list a b before after d
+decided_by p (a_cut ∷ parts) list a b before after d = decided_by p parts list a b before after d
+
+whole_behind : (p : Place) (xs ys : List Part) → AreWhole p (xs ++ ys) → AreWhole p ys
+whole_behind p [] ys whole = whole
+whole_behind p (x ∷ xs) ys whole = whole_behind p xs ys whole.1
+
+-- all that came is served
+pub are_served : (p : Place) (conn : Conn) (bytes : List ℕ) (over : Bool) (parts : List Part) (text : List ℕ) (flow : Flow) → StandsFor conn p bytes parts text
+    → Flows bytes over parts flow → (flow ≡ flows.More → IsServing conn) → AreServed p conn.rows parts text
+are_served p conn bytes over parts text flows.More stands flow serving =
+    settled conn.stage p conn.rows parts text (calm conn.stage (serving refl).reading) stands.serves
+are_served p conn bytes over parts text (flows.Ended why) stands flow serving = ended_served conn.stage p conn.rows parts text why stands.serves flow.1
+
+ends_so : (bytes : List ℕ) (over : Bool) (parts : List Part) (flow : Flow) → Flows bytes over parts flow → ended (map step_of parts) ≡ ending_of flow
+ends_so bytes over parts flows.More flow = flow.1
+ends_so bytes over parts (flows.Ended why) flow = flow.1
+
+all_of : (bytes : List ℕ) (over : Bool) (parts : List Part) (flow : Flow) → Flows bytes over parts flow → IsAllOf bytes over parts
+all_of bytes over parts flows.More flow = flow.0
+all_of bytes over parts (flows.Ended why) flow = flow.0
+
+-- what is behind the first items
+drop_first : {A : Type 0} (xs ys : List A) → drop (length xs) (xs ++ ys) ≡ ys
+drop_first [] ys = refl
+drop_first (x ∷ xs) ys = drop_first xs ys
+
+some_same : {A : Type 0} (x y : A) → Some x ≡ Some y → x ≡ y
+some_same x y e = cc
+
+-- the worker of a connection
+pub worker_at : (r : Replay) (s : State) (c : Client) (plain : Plain) (w : Worker) → Keeps r s → IsClient (site_of r) (length s.workers) c plain → w ≡ get_or r.workers.items c.worker w
+    → slice_get s.workers plain.worker ≡ Some w
+worker_at r s c plain w k client at =
+    let within : c.worker < length r.workers.items = subst (λ (ws : List Worker). c.worker < length ws) (sym k.workers) client.within in
+    subst (λ (n : ℕ). slice_get s.workers n ≡ Some w) client.worker
+    (subst (λ (ws : List Worker). slice_get ws c.worker ≡ Some w) k.workers (slice_get-get_or r.workers.items c.worker w within ∙ ap Some (sym at)))
+
+pub worker_seen : (r : Replay) (s : State) (c : Client) (plain : Plain) (w : Worker) → Keeps r s → IsClient (site_of r) (length s.workers) c plain → w ≡ get_or r.workers.items c.worker w
+    → w.pass ≡ record { seen = s.published; fixed = (arc_value r.doors, arc_value r.controller) }
+worker_seen r s c plain w k client at =
+    seen_at (record { seen = s.published; fixed = (arc_value r.doors, arc_value r.controller) }) s.workers plain.worker w k.seen (worker_at r s c plain w k client at)
+
+pub is_at : (site : Site) (door : ℕ) (seen : List Entry) (w : Worker) → w.pass ≡ record { seen = seen; fixed = (site.doors, site.controller) } → IsAt w (place_at site door)
+is_at site door seen w is = record {
+  doors = ap (λ (q : Seen Entry (List Door × List ℕ)). q.fixed.0) is;
+  controller = ap (λ (q : Seen Entry (List Door × List ℕ)). q.fixed.1) is;
+}
+
+pub door_there : (r : Replay) (s : State) (c : Client) (plain : Plain) (w : Worker) → Keeps r s → IsClient (site_of r) (length s.workers) c plain → w ≡ get_or r.workers.items c.worker w
+    → c.conn.door < length w.pass.fixed.0
+door_there r s c plain w k client at =
+    subst (λ (n : ℕ). n < length w.pass.fixed.0) (sym client.stands.door)
+    (subst (λ (doors : List Door). plain.door < length doors) (sym (ap (λ (q : Seen Entry (List Door × List ℕ)). q.fixed.0) (worker_seen r s c plain w k client at))) client.door)
+
+-- the rows so far
+pub rows_before : (site : Site) (workers : ℕ) (c : Client) (plain : Plain) → IsClient site workers c plain → c.conn.rows ≡ rows_of (place_at site plain.door) plain.parts
+rows_before site workers c plain client =
+    (settled c.conn.stage (place_at site plain.door) c.conn.rows plain.parts plain.text (calm c.conn.stage client.serving.reading) client.stands.serves).rows_are
+
+-- a piece was taken
+pub record Taken (site : Site) (piece : List ℕ) (s : State) (c : Plain) (before after : Worker) (conn : Conn) (flow : Flow) (told0 told : List ℕ) (backends0 backends : UpstreamState) (f f' : ℕ) : Type 0 where
+  pub nothing : told0 ≡ []
+  pub same : backends0 ≡ s.backends
+  pub worker : slice_get s.workers c.worker ≡ Some before
+  pub seen : before.pass ≡ record { seen = s.published; fixed = (site.doors, site.controller) }
+  pub held : after.pass.seen ≡ before.pass.seen
+  pub fixed : after.pass.fixed ≡ before.pass.fixed
+  pub served : Served (place_at site c.door) before after conn (c.bytes ++ piece) (length piece == 0) c.parts c.text (outside (Some told0) (Some backends0.exchanges) f) (outside (Some told) (Some backends.exchanges) f') flow
+  pub serving : flow ≡ flows.More → IsServing conn
+
+module _ {site : Site} {piece : List ℕ} {s : State} {c : Plain} {before after : Worker} {conn : Conn} {flow : Flow} {told0 told : List ℕ} {backends0 backends : UpstreamState} {f f' : ℕ}
+    (v : Taken site piece s c before after conn flow told0 told backends0 backends f f') where
+  abbrev p : Place
+  p = place_at site c.door
+
+  abbrev t : Took p before after conn (c.bytes ++ piece) c.parts c.text (outside (Some told0) (Some backends0.exchanges) f) (outside (Some told) (Some backends.exchanges) f')
+  t = v.served.took
+
+  served : AreServed p conn.rows (c.parts ++ t.more) (c.text ++ t.wrote)
+  served = are_served p conn (c.bytes ++ piece) (length piece == 0) (c.parts ++ t.more) (c.text ++ t.wrote) flow t.stands v.served.flows v.serving
+
+  -- the connection, and what stands behind it
+  abbrev pub client_after : Plain
+  client_after = record c { bytes = c.bytes ++ piece; parts = c.parts ++ t.more; text = c.text ++ t.wrote }
+
+  abbrev pub state_after : State
+  state_after = record s {
+    workers = set s.workers c.worker after;
+    backends = backends;
+    statuses = s.statuses ++ map (λ row. row.status) (rows_of p t.more);
+  }
+
+  abbrev pub text_after : List ℕ → ℕ → List ℕ
+  text_after name line = rows_text name line p t.more ++ written_text name line t.wrote ++ end_text name line (ending_of flow)
+
+  exchanges_are : backends.exchanges ≡ backends0.exchanges ++ t.met
+  exchanges_are = some_same backends.exchanges (backends0.exchanges ++ t.met) t.told
+
+  pub serves_so : (line : ℕ) (name : List ℕ) → Becomes backends0 backends → backends.starved ≡ backends0.starved → Serves p line name c client_after piece (ending_of flow) s state_after (text_after name line)
+  serves_so line name becomes starved = record {
+    before = before;
+    after = after;
+    more = t.more;
+    wrote = t.wrote;
+    met = t.met;
+    backends = backends;
+    worker = v.worker;
+    all = all_of (c.bytes ++ piece) (length piece == 0) (c.parts ++ t.more) flow v.served.flows;
+    ends = ends_so (c.bytes ++ piece) (length piece == 0) (c.parts ++ t.more) flow v.served.flows;
+    decided = t.decided;
+    by_published = decided_by p t.more s.published before after (ap (λ (q : Seen Entry (List Door × List ℕ)). q.seen) v.seen) (v.held ∙ ap (λ (q : Seen Entry (List Door × List ℕ)). q.seen) v.seen) t.decided;
+    whole = whole_behind p c.parts t.more served.whole;
+    wrote_is = served.text_is;
+    exchanged = t.exchanged;
+    becomes = subst (λ (b : UpstreamState). Becomes b backends) v.same becomes;
+    told = exchanges_are ∙ ap (λ (b : UpstreamState). b.exchanges ++ t.met) v.same;
+    starved = starved ∙ ap (λ (b : UpstreamState). b.starved) v.same;
+    client = refl;
+    state = refl;
+    text_is = refl;
+  }
+
+  -- what was written, exchanged, and kept of it
+  pub wrote_so : told ≡ t.wrote
+  wrote_so = some_same told (told0 ++ t.wrote) t.written ∙ ap (λ (l : List ℕ). l ++ t.wrote) v.nothing
+
+  pub met_so : drop (length backends0.exchanges) backends.exchanges ≡ t.met
+  met_so = ap (drop (length backends0.exchanges)) exchanges_are ∙ drop_first backends0.exchanges t.met
+
+  pub met_longer : length backends0.exchanges ≤ length backends.exchanges
+  met_longer = omega (arith, ap length exchanges_are ∙ length-append backends0.exchanges t.met)
+
+  rows_are : conn.rows ≡ rows_of p c.parts ++ rows_of p t.more
+  rows_are = served.rows_are ∙ rows_append p c.parts t.more
+
+  pub rows_so : (rows : List ServedRow) → rows ≡ rows_of p c.parts → drop (length rows) conn.rows ≡ rows_of p t.more
+  rows_so rows is = ap (λ (n : ℕ). drop n conn.rows) (ap length is) ∙ ap (drop (length (rows_of p c.parts))) rows_are ∙ drop_first (rows_of p c.parts) (rows_of p t.more)
+
+  pub rows_longer : (rows : List ServedRow) → rows ≡ rows_of p c.parts → length rows ≤ length conn.rows
+  rows_longer rows is = omega (arith, ap length is, ap length rows_are ∙ length-append (rows_of p c.parts) (rows_of p t.more))
+
+  pub whole_so : AreWhole p t.more
+  whole_so = whole_behind p c.parts t.more served.whole
+
+  pub stands_so : StandsFor conn p client_after.bytes client_after.parts client_after.text
+  stands_so = t.stands
+
+  pass_same : (a b : Seen Entry (List Door × List ℕ)) → a.seen ≡ b.seen → a.fixed ≡ b.fixed → a ≡ b
+  pass_same a b seen fixed = ap (λ (l : List Entry). record a { seen = l }) seen ∙ ap (λ (x : List Door × List ℕ). record b { fixed = x }) fixed
+
+  pub pass_so : after.pass ≡ record { seen = s.published; fixed = (site.doors, site.controller) }
+  pass_so = pass_same after.pass before.pass v.held v.fixed ∙ v.seen
+
+  -- the lines of its rows
+  pub paired_so : (line : ℕ) (name : List ℕ) (rows : List ServedRow) (met : List Exchange) → rows ≡ rows_of p t.more → met ≡ t.met → paired_text name line rows met ≡ rows_text name line p t.more
+  paired_so line name rows met rows_is met_is =
+      ap (λ (r : List ServedRow). paired_text name line r met) rows_is ∙ ap (paired_text name line (rows_of p t.more)) met_is ∙ all_paired name line p t.more t.met whole_so t.exchanged
+
+-- three texts, one behind the other
+pub printed_all : (t0 t1 t2 t3 a b c : List ℕ) → t1 ≡ t0 ++ a → t2 ≡ t1 ++ b → t3 ≡ t2 ++ c → t3 ≡ t0 ++ ((a ++ b) ++ c)
+printed_all t0 t1 t2 t3 a b c first second third =
+    third ∙ ap (λ (x : List ℕ). x ++ c) (second ∙ ap (λ (x : List ℕ). x ++ b) first) ∙ ap (λ (x : List ℕ). x ++ c) (append_assoc t0 a b) ∙ append_assoc t0 (a ++ b) c

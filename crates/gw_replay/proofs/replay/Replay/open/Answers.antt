@@ -1,0 +1,43 @@
+-- A connection begins.
+use Rattle.std.proofs.Common.{◌≡◌, ◌∙◌, ◌<◌, List, [], length, Option, Some, None, ap, append-nil, bytes_eq, refl, string_bytes, sym, subst}
+use Rattle.std.proofs.lemmas.Result.{on_ok_weaker}
+use Rattle.std.specs.BTreeMap.{get_by_text}
+use Rattle.std.specs.Map.{update}
+use Rattle.gw_worker.specs.declared.worker.Worker.{Worker}
+use Rattle.gw_replay.specs.Replays.{Client as Plain, Begins, new_client, place_at}
+use Rattle.gw_replay.specs.States.{IsClient, Matches, site_of}
+use Rattle.gw_replay.specs.declared.replay.Client.{Client}
+use Rattle.gw_replay.specs.declared.replay.Replay.{Replay}
+use Rattle.gw_replay.proofs.Keeping.{keeps_clients, matches_put}
+use Rattle.gw_replay.proofs.Stepping.{none_matched, not_some}
+use Rattle.gw_replay.proofs.replay.Replay.open.Goals as goal
+
+pub returns-clause-does : goal.returns-clause-does
+returns-clause-does c = on_ok_weaker c.keep.result (λ kept. record {
+  site = ap site_of c.keep.ensures.rest;
+  did = λ s k.
+      let old = c.args.self.now in
+      let name = c.args.name.now in
+      let site = site_of old in
+      let plain = new_client c.args.worker c.args.door in
+      let stands = c.new-conn.ensures.stands (place_at site c.args.door) refl in
+      let client : IsClient site (length s.workers) (record { conn = c.new-conn.result; worker = c.args.worker }) plain = record {
+        worker = refl;
+        within = subst (λ (ws : List Worker). c.args.worker < length ws) k.workers c.requires.worker;
+        door = c.requires.door;
+        stands = stands;
+        serving = record { bytes = []; fed = ([], stands.inlet); reading = c.new-conn.ensures.reading; unfinished = c.new-conn.ensures.unfinished };
+      } in
+      let nobody : get_by_text old.clients name ≡ None = not_some (get_by_text old.clients name) (sym c.contains_key.ensures ∙ c.if-contains_key.false) in
+      let none : s.clients name ≡ None = none_matched site (length s.workers) (get_by_text old.clients name) (s.clients name) (k.clients name) nobody in
+      let clients = update bytes_eq s.clients name (Some plain) in
+      record {
+        state = record s { clients = clients };
+        text = [];
+        does_so = subst (λ (o : Option Plain). Begins c.args.number name c.args.worker c.args.door o s (record s { clients = clients }) []) (sym none) (refl, refl);
+        keeps = keeps_clients old c.keep.new.self s clients k c.keep.ensures.rest (λ n.
+            subst (λ (o : Option Client). Matches site (length s.workers) o (clients n)) (sym (kept n))
+            (matches_put site (length s.workers) name (get_by_text old.clients) s.clients (Some (record { conn = c.new-conn.result; worker = c.args.worker })) (Some plain) k.clients client n));
+        printed = ap (λ (r : Replay). string_bytes r.text) c.keep.ensures.rest ∙ sym (append-nil (string_bytes old.text));
+      };
+}) c.keep.ensures.kept

@@ -1,0 +1,5 @@
+pub mod Lines
+pub mod Outputs
+pub mod Pairs
+pub mod Replays
+pub mod States

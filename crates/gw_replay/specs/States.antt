@@ -1,0 +1,139 @@
+-- How what the code keeps stands for what the lines so far have done.
+use Rattle.std.specs.Prelude.{◌≡◌, ℕ, ℤ, ◌<◌, ◌≤◌, List, [], ◌∷◌, ◌++◌, length, Option, Some, None, Result, Ok, ⊤, string_bytes}
+use Rattle.std.specs.Arc.{arc_value}
+use Rattle.std.specs.BTreeMap.{get_by_text}
+use Rattle.gw_frames.specs.declared.ended.Ended.{Ended}
+use Rattle.gw_link.specs.Moments.{TicksInTurn}
+use Rattle.gw_link.specs.declared.order.Order.{Order}
+use Rattle.gw_match.specs.model.Telling.{world_after}
+use Rattle.gw_snap.specs.Lists.{BeginsWith, Seen}
+use Rattle.gw_json.specs.declared.refusal.Refusal.{Refusal}
+use Rattle.gw_store.specs.Events.{Read, a_change, is_skipped}
+use Rattle.gw_store.specs.SeenEvents.{seen_event}
+use Rattle.gw_store.specs.declared.event.Entry.{Entry}
+use Rattle.gw_store.specs.declared.event.Event.{Event}
+use Rattle.gw_text.specs.model.Addresses.{Socket}
+use Rattle.gw_text.specs.model.Doors.{Door}
+use Rattle.gw_worker.specs.Conns.{IsServing, StandsFor}
+use Rattle.gw_worker.specs.declared.take.Flow.{Flow}
+use Rattle.gw_worker.specs.declared.take.Flow.TheVariants as flows
+use Rattle.gw_worker.specs.declared.worker.Worker.{Worker}
+use Rattle.gw_replay.specs.Replays.{Client as Plain, IsAnswer, Runs, Serves, Site, State, place_at, with_order}
+use Rattle.gw_replay.specs.declared.replay.Client.{Client}
+use Rattle.gw_replay.specs.declared.replay.Replay.{Replay}
+
+-- A worker that picked nothing yet.
+abbrev pub worker_over : Seen Entry (List Door × List ℕ) → Worker
+worker_over pass = record { pass = pass; books = record { backends = []; endpoints = [] } }
+
+-- The doors and the controller's name.
+abbrev pub site_of : Replay → Site
+site_of r = record { doors = arc_value r.doors; controller = arc_value r.controller }
+
+-- An open connection.
+pub record IsClient (site : Site) (workers : ℕ) (c : Client) (plain : Plain) : Type 0 where
+  pub worker : c.worker ≡ plain.worker
+  pub within : c.worker < workers
+  pub door : plain.door < length site.doors
+  pub stands : StandsFor c.conn (place_at site plain.door) plain.bytes plain.parts plain.text
+  pub serving : IsServing c.conn
+
+-- The open connection of a name, or none.
+abbrev pub Matches : Site → ℕ → Option Client → Option Plain → Type 0
+Matches site workers None None = ⊤
+Matches site workers None (Some plain) = ⊥
+Matches site workers (Some c) None = ⊥
+Matches site workers (Some c) (Some plain) = IsClient site workers c plain
+
+-- This is what each of the workers has seen.
+abbrev pub HaveSeen : Seen Entry (List Door × List ℕ) → List Worker → Type 0
+HaveSeen seen [] = ⊤
+HaveSeen seen (w ∷ workers) = (w.pass ≡ seen) × HaveSeen seen workers
+
+-- What is kept is what stands after the lines so far.
+pub record Keeps (r : Replay) (s : State) : Type 0 where
+  pub world : r.world.world ≡ world_after s.changes
+  pub publisher : r.publisher ≡ record { pending = s.changes; published = s.published; fixed = (arc_value r.doors, arc_value r.controller) }
+  pub front : r.front ≡ length s.published
+  pub begins : BeginsWith s.published s.changes
+  pub workers : r.workers.items ≡ s.workers
+  pub seen : HaveSeen (record { seen = s.published; fixed = (arc_value r.doors, arc_value r.controller) }) s.workers
+  pub clients : (name : List ℕ) → Matches (site_of r) (length s.workers) (get_by_text r.clients name) (s.clients name)
+  pub backends : r.backends ≡ s.backends
+  pub statuses : r.statuses.items ≡ s.statuses
+  pub refused : r.refused ≡ s.refused
+  pub skipped : r.skipped ≡ s.skipped
+
+-- What was done, and what is written of it behind what was written before.
+pub record Did (does : State → State → List ℕ → Type 0) (old new : Replay) (s : State) : Type 0 where
+  pub state : State
+  pub text : List ℕ
+  pub does_so : does s state text
+  pub keeps : Keeps new state
+  pub printed : string_bytes new.text ≡ string_bytes old.text ++ text
+
+-- From what stood, whatever that was, this was done. The doors and the controller's name stay.
+pub record Does (does : State → State → List ℕ → Type 0) (old new : Replay) : Type 0 where
+  pub site : site_of new ≡ site_of old
+  pub did : (s : State) → Keeps old s → Did does old new s
+
+-- It is what stands after some lines, one of whose open connections this is.
+abbrev pub HasClient : Replay → Client → Type 0
+HasClient r c = (s : State) × ((plain : Plain) × (Keeps r s × IsClient (site_of r) (length s.workers) c plain))
+
+-- It is what stands after some lines.
+abbrev pub IsKept : Replay → Type 0
+IsKept r = (s : State) × Keeps r s
+
+-- One change more.
+pub record Adds (entry : Entry) (s s' : State) (text : List ℕ) : Type 0 where
+  pub state : s' ≡ record s { changes = s.changes ++ entry ∷ [] }
+  pub text_is : text ≡ []
+
+-- An answer of a backend, or a call of it that fails, from now on.
+abbrev pub Orders : Order → State → State → List ℕ → Type 0
+Orders order s s' text = (s' ≡ with_order s order) × (text ≡ [])
+
+abbrev pub Answers : Socket → List ℕ → State → State → List ℕ → Type 0
+Answers socket bytes s s' text = (order : Order) × (IsAnswer order socket bytes × (s' ≡ with_order s order) × (text ≡ []))
+
+-- How a connection ends that flows so, or that it doesn't.
+abbrev pub ending_of : Flow → Option Ended
+ending_of flows.More = None
+ending_of (flows.Ended why) = Some why
+
+-- A connection was served by a piece, from what stood.
+pub record ServedFrom (line : ℕ) (name piece : List ℕ) (c' : Client) (flow : Flow) (old new : Replay) (s : State) (plain : Plain) : Type 0 where
+  pub state : State
+  pub plain' : Plain
+  pub text : List ℕ
+  pub serves : Serves (place_at (site_of old) plain.door) line name plain plain' piece (ending_of flow) s state text
+  pub keeps : Keeps new state
+  pub printed : string_bytes new.text ≡ string_bytes old.text ++ text
+  pub client : flow ≡ flows.More → IsClient (site_of old) (length state.workers) c' plain'
+
+-- A connection was served by a piece.
+pub record ServedBy (line : ℕ) (name piece : List ℕ) (c c' : Client) (flow : Flow) (old new : Replay) : Type 0 where
+  pub site : site_of new ≡ site_of old
+  pub did : (s : State) (plain : Plain) → Keeps old s → IsClient (site_of old) (length s.workers) c plain
+      → ServedFrom line name piece c' flow old new s plain
+
+-- The clock was asked once for each moment, in turn, and this was done.
+pub record DoesInTurn (does : List ℤ → State → State → List ℕ → Type 0) (before after : Option (List ℤ)) (old new : Replay) : Type 0 where
+  pub moments : List ℤ
+  pub in_turn : TicksInTurn before moments after
+  pub done : Does (does moments) old new
+
+-- Lines were run, the first of them with this number.
+abbrev pub RunsTo : ℕ → List (List ℕ) → Option (List ℤ) → Option (List ℤ) → Replay → Replay → Type 0
+RunsTo line lines before after old new = DoesInTurn (λ moments s s' text. Runs (site_of old) line lines moments s s' text) before after old new
+
+-- None of the counts is above this number.
+abbrev pub AreAtMost : ℕ → List (ℕ × ℕ) → Type 0
+AreAtMost most [] = ⊤
+AreAtMost most (e ∷ counts) = (e.1 ≤ most) × AreAtMost most counts
+
+-- The change that a line says, twice, or none.
+abbrev pub IsTwice : Option (Event × Event) → Result Read Refusal → Type 0
+IsTwice None read = read ≡ Ok is_skipped
+IsTwice (Some twice) read = (read ≡ Ok (a_change (seen_event twice.0))) × (seen_event twice.1 ≡ seen_event twice.0)

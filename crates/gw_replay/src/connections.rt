@@ -1,0 +1,146 @@
+//! Connections of clients.
+ghost use Rattle.std.specs.Prelude.{◌≡◌, ◌+◌, ◌<◌, ◌≤◌, ◌^◌, ◌==◌, ◌++◌, ℕ, List, [], Some, length, map, bytes_eq, IfOk, OnOk};
+ghost use Rattle.std.specs.BTreeMap.{get_by_text};
+ghost use Rattle.std.specs.Map.{update};
+ghost use Rattle.gw_link.specs.Upstreams.{Becomes};
+ghost use Rattle.gw_worker.specs.Conns.{IsServing, StandsFor};
+ghost use Rattle.gw_worker.specs.Flows.{Served, outside};
+ghost use Rattle.gw_worker.specs.Workers.{IsAt};
+ghost use Rattle.gw_worker.specs.model.Sessions.{Part, Place};
+ghost use Rattle.gw_replay.specs.Replays.{Begins, Sends};
+ghost use Rattle.gw_replay.specs.States.{Does, HasClient, IsKept, ServedBy, site_of};
+
+use crate::print::{Said, push_end, push_written};
+use crate::replay::{Client, Replay};
+use crate::rows::push_rows;
+use gw_answers::ServedRow;
+use gw_link::{MemLink, MemSink, MemSource, MemUpstream};
+use gw_script::StepRefusal;
+use gw_text::NoMemory;
+use gw_worker::{Conn, Flow, Worker};
+use std::alloc::Global;
+
+impl Replay {
+    /// A connection of this name begins, unless one is open.
+    pub(crate) fn open(
+        &mut self,
+        number: u64,
+        name: &str,
+        worker: usize,
+        door: usize,
+    ) -> Result<(), NoMemory>
+        requires few { self.old.refused < 2 ^ 63 }
+        requires worker { worker < length self.old.workers.items }
+        requires door { door < length (site_of self.old).doors }
+        ensures does { OnOk result (Does (λ s s' text. Begins number name.now worker door (s.clients name.now) s s' text) self.old self.new) }
+        ensures refused { OnOk result (self.new.refused ≤ self.old.refused + 1) }
+        ensures skipped { OnOk result (self.new.skipped ≡ self.old.skipped) }
+    {
+        if self.clients.contains_key(name) {
+            return self.refuse_line(number, StepRefusal::NotStep);
+        }
+        let conn = Conn::new(self.alloc, door);
+        self.keep(name, Client { conn, worker })
+    }
+
+    // Keeps an open connection under its name.
+    fn keep(&mut self, name: &str, client: Client) -> Result<(), NoMemory>
+        ensures rest { self.new ≡ record self.old { clients = self.new.clients } }
+        ensures kept { OnOk result ((n : List ℕ) → get_by_text self.new.clients n ≡ update bytes_eq (get_by_text self.old.clients) name.now (Some client) n) }
+    {
+        let name = String::from_str(self.alloc, name)?;
+        self.clients.insert(name, client)?;
+        Ok(())
+    }
+
+    /// The client of this name sends a piece, or has sent all where it is empty.
+    pub(crate) fn send(&mut self, number: u64, name: &str, piece: &[u8]) -> Result<(), NoMemory>
+        requires kept { IsKept self.old }
+        requires few { self.old.refused < 2 ^ 63 }
+        ensures does { OnOk result (Does (λ s s' text. Sends (site_of self.old) number name.now piece.now (s.clients name.now) s s' text) self.old self.new) }
+        ensures refused { OnOk result (self.new.refused ≤ self.old.refused + 1) }
+        ensures skipped { OnOk result (self.new.skipped ≡ self.old.skipped) }
+    {
+        let Some(mut client) = self.clients.remove(name) else {
+            return self.refuse_line(number, StepRefusal::NotStep);
+        };
+        let said = Said { name, line: number };
+        match self.serve(said, &mut client, piece)? {
+            Flow::More => self.keep(name, client),
+            Flow::Ended(_) => Ok(()),
+        }
+    }
+
+    // Serves a connection by a piece, and writes what came of it.
+    fn serve(&mut self, said: Said<'_>, client: &mut Client, piece: &[u8]) -> Result<Flow, NoMemory>
+        requires { HasClient self.old client.old }
+        ensures served { IfOk result (λ flow. ServedBy said.entry.line said.entry.name.now piece.now client.old client.new flow self.old self.new) }
+        ensures clients { self.new.clients ≡ self.old.clients }
+        ensures refused { self.new.refused ≡ self.old.refused }
+        ensures skipped { self.new.skipped ≡ self.old.skipped }
+    {
+        let rows = client.conn.served().as_slice().len();
+        let exchanges = self.backends.exchanges().len();
+        let mut link = no_bytes(self.alloc);
+        let worker = &mut self.workers[client.worker];
+        let flow = take(
+            &mut client.conn,
+            worker,
+            piece,
+            &mut link,
+            &mut self.backends,
+        )?;
+        let (_, rows) = client.conn.served().as_slice().split_at(rows);
+        let (_, exchanges) = self.backends.exchanges().split_at(exchanges);
+        push_rows(self.alloc, &mut self.text, said, rows, exchanges)?;
+        push_statuses(&mut self.statuses, rows)?;
+        push_written(self.alloc, &mut self.text, said, link.written())?;
+        push_end(self.alloc, &mut self.text, said, flow)?;
+        Ok(flow)
+    }
+}
+
+// A link over which nothing comes, and nothing was written.
+fn no_bytes(alloc: Global) -> MemLink
+    ensures written { result.sink.written ≡ [] }
+{
+    let source = MemSource::new(Vec::new(alloc), Vec::new(alloc));
+    let sink = MemSink::new(alloc, Vec::new(alloc));
+    MemLink::new(source, sink, Vec::new(alloc))
+}
+
+// What comes of a piece. A call that failed for want of memory says nothing of a backend.
+fn take(
+    conn: &mut Conn,
+    worker: &mut Worker,
+    piece: &[u8],
+    link: &mut MemLink,
+    backends: &mut MemUpstream,
+) -> Result<Flow, NoMemory>
+    requires door { conn.old.door < length worker.old.pass.fixed.0 }
+    requires serving { IsServing conn.old }
+    ensures served { IfOk result (λ flow. (p : Place) (bytes : List ℕ) (parts : List Part) (text : List ℕ) → IsAt worker.old p → StandsFor conn.old p bytes parts text
+        → Served p worker.old worker.new conn.new (bytes ++ piece.now) (length piece.now == 0) parts text
+        (outside (Some link.old.sink.written) (Some backends.old.exchanges) backends.old.calls.faults)
+        (outside (Some link.new.sink.written) (Some backends.new.exchanges) backends.new.calls.faults) flow) }
+    ensures serving { result ≡ Ok Flow.More → IsServing conn.new }
+    ensures becomes { Becomes backends.old backends.new }
+    ensures starved { OnOk result (backends.new.starved ≡ backends.old.starved) }
+    ensures fixed { worker.new.pass.fixed ≡ worker.old.pass.fixed }
+    ensures held { worker.new.pass.seen ≡ worker.old.pass.seen }
+{
+    let starved = backends.starved();
+    match conn.take(worker, piece, link, backends) {
+        Ok(flow) if link.starved() == 0 && backends.starved() == starved => Ok(flow),
+        _ => Err(NoMemory),
+    }
+}
+
+fn push_statuses(statuses: &mut Vec<u16>, rows: &[ServedRow]) -> Result<(), NoMemory>
+    ensures { OnOk result (statuses.new.items ≡ statuses.old.items ++ map (λ row. row.status) rows.now) }
+{
+    'rows: for row in rows {
+        statuses.push(row.status)?;
+    }
+    Ok(())
+}

@@ -1,0 +1,5 @@
+//! Tests of scripts, over the public call. They stand alone, since a crate with tests is proved twice.
+#![tactic(auto)]
+
+#[cfg(test)]
+mod pieces;
