@@ -1,5 +1,5 @@
 //! Two requests, cut into pieces at every place: the same rows, and the same bytes written.
-use gw_link::MemClock;
+use gw_link::{MOST_INPUT, MemClock};
 use gw_replay::replay_output;
 use gw_text::{Door, Doors, NoMemory, Text};
 use std::alloc::Global;
@@ -63,6 +63,9 @@ fn put_served(
 }
 
 fn output(alloc: Global, script: &str) -> Result<Text, NoMemory> {
+    if script.len() > MOST_INPUT {
+        return Err(NoMemory);
+    }
     let mut doors = Vec::new(alloc);
     if let Ok(door) = Door::parse(alloc, "default/g:80=127.0.0.1:18080") {
         doors.push(door)?;
