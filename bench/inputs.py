@@ -111,11 +111,21 @@ def build():
         sys.exit("gateward does not run")
 
 
+def environment(command):
+    """The environment of a command: for the program, with what bin/gateward sets for its memory."""
+    if command[0] != PROGRAM:
+        return None
+    with open(os.path.join(TOP, "bin", "gateward")) as file:
+        memory = [text.rstrip()[len("memory="):] for text in file if text.startswith("memory=")]
+    return {**os.environ, "GLIBC_TUNABLES": memory[0]}
+
+
 def run(command, path):
     """Seconds, and peak memory in bytes, of one run. `time` starts it, so that its memory isn't this script's."""
     with open(path, "rb") as source, open(os.devnull, "wb") as sink:
         begin = time.perf_counter()
-        process = subprocess.run(["/usr/bin/time", "-f", "%M"] + command, stdin=source, stdout=sink, stderr=subprocess.PIPE)
+        process = subprocess.run(["/usr/bin/time", "-f", "%M"] + command, stdin=source, stdout=sink, stderr=subprocess.PIPE,
+                                 env=environment(command))
         seconds = time.perf_counter() - begin
     if process.returncode != 0:
         sys.exit("%s ended with %d: %s" % (command[0], process.returncode, process.stderr.decode()))
