@@ -1,21 +1,9 @@
 //! Two requests, cut into pieces at every place: the same rows, and the same bytes written.
-use gw_link::{MOST_INPUT, MemClock};
-use gw_replay::replay_output;
-use gw_text::{Door, Doors, NoMemory, Text};
+use super::script::{BEGINNING, output, put_sending};
+use gw_text::NoMemory;
 use std::alloc::Global;
 use std::process::Abort;
 use std::test::*;
-
-// The lines up to the first request, which are 7.
-const BEGINNING: &str =
-    r#"event {"type":"ADDED","object":{"apiVersion":"gateway.networking.k8s.io/v1","kind":"GatewayClass","metadata":{"name":"c"},"spec":{"controllerName":"gateward.example/controller"}}}
-event {"type":"ADDED","object":{"apiVersion":"gateway.networking.k8s.io/v1","kind":"Gateway","metadata":{"name":"g"},"spec":{"gatewayClassName":"c","listeners":[{"name":"http","port":80,"protocol":"HTTP"}]}}}
-event {"type":"ADDED","object":{"apiVersion":"gateway.networking.k8s.io/v1","kind":"HTTPRoute","metadata":{"name":"r"},"spec":{"parentRefs":[{"name":"g"}],"rules":[{"backendRefs":[{"name":"s","port":80}]}]}}}
-event {"type":"ADDED","object":{"apiVersion":"v1","kind":"Service","metadata":{"name":"s"},"spec":{"ports":[{"port":80}]}}}
-event {"type":"ADDED","object":{"apiVersion":"discovery.k8s.io/v1","kind":"EndpointSlice","metadata":{"name":"s-1","labels":{"kubernetes.io/service-name":"s"}},"addressType":"IPv4","ports":[{"port":8080}],"endpoints":[{"addresses":["10.0.0.1"]}]}}
-publish
-open c 0 0
-"#;
 
 const REQUEST: &str = "GET /a HTTP/1.1\r\nHost: x\r\n\r\n";
 
@@ -26,19 +14,6 @@ const ROW: (&str, &str) = (
 );
 
 const REPLY: &str = r#"HTTP/1.1 200 OK\r\ncontent-length: 13\r\n\r\n10.0.0.1:8080"#;
-
-// A line that sends these bytes.
-fn put_sending(script: &mut String, bytes: &str) -> Result<(), NoMemory> {
-    script.push_str("send c \"")?;
-    for character in bytes.chars() {
-        match character {
-            '\r' => script.push_str("\\r")?,
-            '\n' => script.push_str("\\n")?,
-            other => script.push(other)?,
-        }
-    }
-    script.push_str("\"\n")
-}
 
 // What is printed where so many requests become whole by the line of this number.
 fn put_served(
@@ -60,23 +35,6 @@ fn put_served(
         text.push_str("\"}\n")?;
     }
     Ok(())
-}
-
-fn output(alloc: Global, script: &str) -> Result<Text, NoMemory> {
-    if script.len() > MOST_INPUT {
-        return Err(NoMemory);
-    }
-    let mut doors = Vec::new(alloc);
-    if let Ok(door) = Door::parse(alloc, "default/g:80=127.0.0.1:18080") {
-        doors.push(door)?;
-    }
-    let Ok(doors) = Doors::new(alloc, doors) else {
-        return Err(NoMemory);
-    };
-    let controller = Text::of(alloc, "gateward.example/controller")?;
-    let mut clock = MemClock::new(Vec::new(alloc));
-    let output = replay_output(alloc, doors, controller, 1, script.as_bytes(), &mut clock)?;
-    Ok(output.text)
 }
 
 // Sends the bytes in pieces of which each ends at one of the places, and expects two requests of them.
