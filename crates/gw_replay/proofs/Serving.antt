@@ -15,6 +15,7 @@ use Rattle.gw_worker.proofs.Linking.{calm, ended_served}
 use Rattle.gw_worker.proofs.Parts.{rows_append}
 use Rattle.gw_worker.proofs.Turning.{settled}
 use Rattle.gw_worker.specs.Conns.{AreServed, AreWhole, IsAllOf, IsServing, StandsFor}
+use Rattle.gw_worker.specs.Exchanges.{HasRisenBy, call_faults}
 use Rattle.gw_worker.specs.Flows.{Flows, Served, Took, outside}
 use Rattle.gw_worker.specs.Workers.{Decided, IsAt}
 use Rattle.gw_worker.specs.declared.conn.Conn.{Conn}
@@ -112,22 +113,22 @@ rows_before site workers c plain client =
     (settled c.conn.stage (place_at site plain.door) c.conn.rows plain.parts plain.text (calm c.conn.stage client.serving.reading) client.stands.serves).rows_are
 
 -- a piece was taken
-pub record Taken (site : Site) (piece : List ℕ) (s : State) (c : Plain) (before after : Worker) (conn : Conn) (flow : Flow) (told0 told : List ℕ) (backends0 backends : UpstreamState) (f f' : ℕ) : Type 0 where
+pub record Taken (site : Site) (piece : List ℕ) (s : State) (c : Plain) (before after : Worker) (conn : Conn) (flow : Flow) (told0 told : List ℕ) (backends0 backends : UpstreamState) : Type 0 where
   pub nothing : told0 ≡ []
   pub same : backends0 ≡ s.backends
   pub worker : slice_get s.workers c.worker ≡ Some before
   pub seen : before.pass ≡ record { seen = s.published; fixed = (site.doors, site.controller) }
   pub held : after.pass.seen ≡ before.pass.seen
   pub fixed : after.pass.fixed ≡ before.pass.fixed
-  pub served : Served (place_at site c.door) before after conn (c.bytes ++ piece) (length piece == 0) c.parts c.text (outside (Some told0) (Some backends0.exchanges) f) (outside (Some told) (Some backends.exchanges) f') flow
+  pub served : Served (place_at site c.door) before after conn (c.bytes ++ piece) (length piece == 0) c.parts c.text (outside (Some told0) (Some backends0.exchanges) backends0.calls.faults) (outside (Some told) (Some backends.exchanges) backends.calls.faults) flow
   pub serving : flow ≡ flows.More → IsServing conn
 
-module _ {site : Site} {piece : List ℕ} {s : State} {c : Plain} {before after : Worker} {conn : Conn} {flow : Flow} {told0 told : List ℕ} {backends0 backends : UpstreamState} {f f' : ℕ}
-    (v : Taken site piece s c before after conn flow told0 told backends0 backends f f') where
+module _ {site : Site} {piece : List ℕ} {s : State} {c : Plain} {before after : Worker} {conn : Conn} {flow : Flow} {told0 told : List ℕ} {backends0 backends : UpstreamState}
+    (v : Taken site piece s c before after conn flow told0 told backends0 backends) where
   abbrev p : Place
   p = place_at site c.door
 
-  abbrev t : Took p before after conn (c.bytes ++ piece) c.parts c.text (outside (Some told0) (Some backends0.exchanges) f) (outside (Some told) (Some backends.exchanges) f')
+  abbrev t : Took p before after conn (c.bytes ++ piece) c.parts c.text (outside (Some told0) (Some backends0.exchanges) backends0.calls.faults) (outside (Some told) (Some backends.exchanges) backends.calls.faults)
   t = v.served.took
 
   served : AreServed p conn.rows (c.parts ++ t.more) (c.text ++ t.wrote)
@@ -169,6 +170,7 @@ module _ {site : Site} {piece : List ℕ} {s : State} {c : Plain} {before after 
     becomes = subst (λ (b : UpstreamState). Becomes b backends) v.same becomes;
     told = exchanges_are ∙ ap (λ (b : UpstreamState). b.exchanges ++ t.met) v.same;
     starved = starved ∙ ap (λ (b : UpstreamState). b.starved) v.same;
+    failed = subst (λ (b : UpstreamState). HasRisenBy (call_faults (rows_of p t.more)) b.calls.faults backends.calls.faults) v.same t.failed;
     client = refl;
     state = refl;
     text_is = refl;

@@ -85,6 +85,7 @@ serves_among p line name c c' piece ending s s2 f text v = record {
   becomes = v.becomes;
   told = v.told;
   starved = v.starved;
+  failed = v.failed;
   client = v.client;
   state = ap (λ (x : State). record x { clients = s.clients }) v.state;
   text_is = v.text_is;

@@ -25,7 +25,7 @@ use Rattle.gw_store.specs.declared.event.Entry.{Entry}
 use Rattle.gw_text.specs.model.Addresses.{Socket}
 use Rattle.gw_text.specs.model.Doors.{Door}
 use Rattle.gw_worker.specs.Conns.{AreWhole, IsAllOf}
-use Rattle.gw_worker.specs.Exchanges.{Exchanged}
+use Rattle.gw_worker.specs.Exchanges.{Exchanged, HasRisenBy, call_faults}
 use Rattle.gw_worker.specs.Workers.{Decided}
 use Rattle.gw_worker.specs.declared.worker.Worker.{Worker}
 use Rattle.gw_worker.specs.model.Sessions.{Part, Place, a_close, a_cut, a_refused, a_request, a_wait, rows_of, written, step_of as bytes_step}
@@ -148,6 +148,8 @@ pub record Serves (p : Place) (line : ℕ) (name : List ℕ) (c c' : Client) (pi
   pub becomes : Becomes s.backends backends
   pub told : backends.exchanges ≡ s.backends.exchanges ++ met
   pub starved : backends.starved ≡ s.backends.starved
+  -- as many calls failed at least as there are rows with such a fault
+  pub failed : HasRisenBy (call_faults (rows_of p more)) s.backends.calls.faults backends.calls.faults
   pub client : c' ≡ record c { bytes = c.bytes ++ piece; parts = c.parts ++ more; text = c.text ++ wrote }
   pub state : s' ≡ record s {
     workers = set s.workers c.worker after;

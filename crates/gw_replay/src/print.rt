@@ -21,6 +21,7 @@ pub(crate) struct Said<'n> {
     pub(crate) line: u64,
 }
 
+/// A line that is refused, by the refusal of this number, and with this path.
 pub(crate) fn push_refused(
     alloc: Global,
     text: &mut String,
@@ -34,6 +35,7 @@ pub(crate) fn push_refused(
     push_line(alloc, text, &value)
 }
 
+/// A publication, of so many changes.
 pub(crate) fn push_front(
     alloc: Global,
     text: &mut String,

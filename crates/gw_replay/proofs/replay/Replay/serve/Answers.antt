@@ -27,7 +27,7 @@ split_at-requires c =
     let w = c.index_mut-worker.result.now in
     let seen = worker_seen c.args.self.now s c.args.client.now plain w keeps client c.index_mut-worker.ensures.value in
     let v : Taken site c.args.piece.now s plain w c.take.new.worker c.take.new.conn c.in_ok-flow.flow c.no_bytes-link.result.sink.written c.take.new.link.sink.written
-    c.args.self.now.backends c.take.new.backends c.args.self.now.backends.calls.faults c.take.new.backends.calls.faults = record {
+    c.args.self.now.backends c.take.new.backends = record {
       nothing = c.no_bytes-link.ensures.written;
       same = keeps.backends;
       worker = worker_at c.args.self.now s c.args.client.now plain w keeps client c.index_mut-worker.ensures.value;
@@ -53,7 +53,7 @@ split_at-requires-2 c =
     let w = c.index_mut-worker.result.now in
     let seen = worker_seen c.args.self.now s c.args.client.now plain w keeps client c.index_mut-worker.ensures.value in
     let v : Taken site c.args.piece.now s plain w c.take.new.worker c.take.new.conn c.in_ok-flow.flow c.no_bytes-link.result.sink.written c.take.new.link.sink.written
-    c.args.self.now.backends c.take.new.backends c.args.self.now.backends.calls.faults c.take.new.backends.calls.faults = record {
+    c.args.self.now.backends c.take.new.backends = record {
       nothing = c.no_bytes-link.ensures.written;
       same = keeps.backends;
       worker = worker_at c.args.self.now s c.args.client.now plain w keeps client c.index_mut-worker.ensures.value;
@@ -73,7 +73,7 @@ returns-clause-served c = record {
       let w = c.index_mut-worker.result.now in
       let seen = worker_seen c.args.self.now s c.args.client.now plain w keeps client c.index_mut-worker.ensures.value in
       let v : Taken site c.args.piece.now s plain w c.take.new.worker c.take.new.conn c.in_ok-flow.flow c.no_bytes-link.result.sink.written c.take.new.link.sink.written
-      c.args.self.now.backends c.take.new.backends c.args.self.now.backends.calls.faults c.take.new.backends.calls.faults = record {
+      c.args.self.now.backends c.take.new.backends = record {
         nothing = c.no_bytes-link.ensures.written;
         same = keeps.backends;
         worker = worker_at c.args.self.now s c.args.client.now plain w keeps client c.index_mut-worker.ensures.value;
