@@ -24,10 +24,10 @@ fn creation(route: &Stored<HttpRoute>) -> Second
 fn own_hostname(alloc: Global, hostname: Option<&Host>) -> Result<Option<Host>, NoMemory>
     ensures { IfOk result (λ copy. copy ≡ option_copied hostname.entry) }
 {
-    match hostname {
-        Some(host) => Ok(Some(host.copy(alloc)?)),
-        None => Ok(None),
-    }
+    let Some(host) = hostname else {
+        return Ok(None);
+    };
+    Ok(Some(host.copy(alloc)?))
 }
 
 fn row(

@@ -13,7 +13,10 @@ use std::alloc::Global;
 fn is_service(group: &Text, kind: &Text) -> bool
     ensures { result ≡ is_core_service group.now kind.now }
 {
-    group.bytes().is_empty() && kind.bytes() == b"Service".as_slice()
+    if !group.bytes().is_empty() {
+        return false;
+    }
+    kind.bytes() == b"Service".as_slice()
 }
 
 impl BackendRef {

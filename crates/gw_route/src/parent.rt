@@ -10,7 +10,6 @@ use gw_json::{Cursor, Form, Port, Refusal};
 use gw_text::{GATEWAY_GROUP, Key, NamespaceName, Text};
 use std::alloc::{AllocError, Global};
 
-#[tactic(auto, unfolding(gw_text::specs::model::Kinds::gateway_group))]
 fn group(alloc: Global) -> Result<Text, AllocError>
     ensures { IfOk result (λ group. group ≡ gateway_group) }
 {

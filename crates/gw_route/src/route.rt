@@ -38,17 +38,24 @@ impl<'o> Form for RuleIn<'o> {
     }
 }
 
-// The rules of a Route that doesn't list any.
-fn default_rules(alloc: Global) -> Result<Vec<Rule>, AllocError>
-    ensures { IfOk result (λ v. v.items ≡ routes.default_rule ∷ []) }
+// The rule of a Route that doesn't list any.
+fn default_rule(alloc: Global) -> Result<Rule, AllocError>
+    ensures { IfOk result (λ rule. rule ≡ routes.default_rule) }
 {
-    let mut rules = Vec::with_capacity(alloc, 1)?;
-    rules.push(Rule {
+    let rule = Rule {
         matches: or_default(alloc, Vec::new(alloc))?,
         filters: Vec::new(alloc),
         backend_refs: Vec::new(alloc),
         timeouts: false,
-    })?;
+    };
+    Ok(rule)
+}
+
+fn default_rules(alloc: Global) -> Result<Vec<Rule>, AllocError>
+    ensures { IfOk result (λ v. v.items ≡ routes.default_rule ∷ []) }
+{
+    let mut rules = Vec::with_capacity(alloc, 1)?;
+    rules.push(default_rule(alloc)?)?;
     Ok(rules)
 }
 
