@@ -1,5 +1,5 @@
 -- Steps of a script: what is done, one step after another.
-use Rattle.std.specs.Prelude.{ℕ, ◌<◌, List, Bool, true, false, Option, None, Some, ⊤}
+use Rattle.std.specs.Prelude.{ℕ, ◌<◌, List, ⊤}
 use Rattle.gw_text.specs.model.Addresses.{Socket}
 use Rattle.gw_link.specs.declared.order.UpstreamCall.{UpstreamCall}
 
@@ -13,17 +13,6 @@ pub data Step : Type 0 where
   an_end : List ℕ → Step
   an_answer : Socket → List ℕ → ℕ → Step
   a_failure : Socket → UpstreamCall → Step
-
--- The connection that a step names, and whether it must be open before the step. A line whose step can't be taken for this
--- is no step either.
-abbrev pub connection_of : Step → Option (List ℕ × Bool)
-connection_of (an_event bytes) = None
-connection_of a_publication = None
-connection_of (a_beginning name worker door) = Some (name, false)
-connection_of (a_sending name bytes) = Some (name, true)
-connection_of (an_end name) = Some (name, true)
-connection_of (an_answer socket text fill) = None
-connection_of (a_failure socket call) = None
 
 -- The worker and the door that a step names are there, among so many.
 abbrev pub IsWithin : ℕ → ℕ → Step → Type 0

@@ -1,7 +1,3 @@
-ghost use Rattle.std.specs.Prelude.{◌≡◌, option_map};
-ghost use Rattle.gw_script.specs.Seen.{seen_step};
-ghost use Rattle.gw_script.specs.Steps.{connection_of};
-
 use gw_link::UpstreamCall;
 use gw_text::Socket;
 
@@ -38,17 +34,4 @@ pub enum Step<'l> {
         socket: Socket,
         call: UpstreamCall,
     },
-}
-
-impl Step<'_> {
-    /// The connection that the step names, and whether it must be open before the step.
-    pub fn connection(&self) -> Option<(&str, bool)>
-        ensures { option_map (λ p. (p.0.now, p.1)) result ≡ connection_of (seen_step self.now) }
-    {
-        match self {
-            Step::Open { name, .. } => Some((*name, false)),
-            Step::Send { name, .. } | Step::End { name } => Some((*name, true)),
-            Step::Event(_) | Step::Publish | Step::Answer { .. } | Step::Fail { .. } => None,
-        }
-    }
 }

@@ -42,18 +42,10 @@ fn said(alloc: Global, step: &Step<'_>) -> Result<String, Fail> {
     Ok(text)
 }
 
-// What the line is read as: a step with its parts, and whether its connection must be open, or the number of its refusal.
+// What the line is read as: a step with its parts, or the number of its refusal.
 fn answer(alloc: Global, line: &[u8]) -> Result<String, Fail> {
     match read_step(alloc, line, 3, 2) {
-        Ok(step) => {
-            let mut text = said(alloc, &step)?;
-            match step.connection() {
-                Some((_, true)) => text.push_str(", open")?,
-                Some((_, false)) => text.push_str(", closed")?,
-                None => {}
-            }
-            Ok(text)
-        }
+        Ok(step) => Ok(said(alloc, &step)?),
         Err(refusal) => Ok(format!(in alloc;
             "{} {}",
             refusal.number(),
@@ -66,29 +58,29 @@ fn answer(alloc: Global, line: &[u8]) -> Result<String, Fail> {
 const STEPS: &str = r#"publish
 publish
 open c 0 0
-open c 0 0, closed
+open c 0 0
 open c 2 1
-open c 2 1, closed
+open c 2 1
 open 0 2 1
-open 0 2 1, closed
+open 0 2 1
 open aaaaaaaaaaaaaaaaaaaaaaaaaaaaaaaaaaaaaaaaaaaaaaaaaaaaaaaaaaaaaaaZ 0 0
-open aaaaaaaaaaaaaaaaaaaaaaaaaaaaaaaaaaaaaaaaaaaaaaaaaaaaaaaaaaaaaaaZ 0 0, closed
+open aaaaaaaaaaaaaaaaaaaaaaaaaaaaaaaaaaaaaaaaaaaaaaaaaaaaaaaaaaaaaaaZ 0 0
 send c "a"
-send c [a], open
+send c [a]
 send Conn7 "GET /a HTTP/1.1\r\nHost: x\r\n\r\n"
-send Conn7 [GET /a HTTP/1.1^Host: x^^], open
+send Conn7 [GET /a HTTP/1.1^Host: x^^]
 send c "\u0041 \u00ff\"\\"
-send c [A ÿ"\], open
+send c [A ÿ"\]
 send c "é"
-send c [é], open
+send c [é]
 send c " "
-send c [ ], open
+send c [ ]
 send aaaaaaaaaaaaaaaaaaaaaaaaaaaaaaaaaaaaaaaaaaaaaaaaaaaaaaaaaaaaaaaZ "a"
-send aaaaaaaaaaaaaaaaaaaaaaaaaaaaaaaaaaaaaaaaaaaaaaaaaaaaaaaaaaaaaaaZ [a], open
+send aaaaaaaaaaaaaaaaaaaaaaaaaaaaaaaaaaaaaaaaaaaaaaaaaaaaaaaaaaaaaaaZ [a]
 end c
-end c, open
+end c
 end aaaaaaaaaaaaaaaaaaaaaaaaaaaaaaaaaaaaaaaaaaaaaaaaaaaaaaaaaaaaaaaZ
-end aaaaaaaaaaaaaaaaaaaaaaaaaaaaaaaaaaaaaaaaaaaaaaaaaaaaaaaaaaaaaaaZ, open
+end aaaaaaaaaaaaaaaaaaaaaaaaaaaaaaaaaaaaaaaaaaaaaaaaaaaaaaaaaaaaaaaZ
 answer 10.0.0.1:8080 "a b"
 answer 10.0.0.1:8080 [a b] 0
 answer 10.0.0.1:8080 ""
