@@ -24,7 +24,6 @@ use std::sync::Arc;
 pub type Served = List<ServedRow>;
 
 /// A client's connection at a door.
-#[derive(Drop)]
 pub struct Conn {
     pub(crate) alloc: Global,
     /// The door's number.
@@ -32,6 +31,19 @@ pub struct Conn {
     pub(crate) inlet: Inlet,
     pub(crate) rows: Served,
     pub(crate) stage: Stage,
+}
+
+// Written out, so that crates above don't prove anew how its parts are dropped.
+impl Drop for Conn {
+    fn drop(self) {
+        let Conn {
+            alloc: _,
+            door: _,
+            inlet: _,
+            rows: _,
+            stage: _,
+        } = self;
+    }
 }
 
 /// What is known of a request for which a backend is asked.
@@ -154,7 +166,14 @@ impl Conn {
     pub fn rows(self) -> Served
         ensures { result ≡ self.rows }
     {
-        self.rows
+        let Conn {
+            alloc: _,
+            door: _,
+            inlet: _,
+            rows,
+            stage: _,
+        } = self;
+        rows
     }
 
     /// The rows so far.

@@ -12,10 +12,16 @@ use gw_text::NoMemory;
 use std::alloc::Global;
 
 /// Who serves connections, one after another or by turns: by what its pass sees, with its own picks.
-#[derive(Drop)]
 pub struct Worker {
     pub(crate) pass: Pass<Tables>,
     pub(crate) books: Books,
+}
+
+// Written out, so that crates above don't prove anew how its parts are dropped.
+impl Drop for Worker {
+    fn drop(self) {
+        let Worker { pass: _, books: _ } = self;
+    }
 }
 
 impl Worker {
