@@ -3,25 +3,22 @@ use Rattle.std.proofs.Common.{◌≡◌, ◌∙◌, ℕ, zero, suc, ◌+◌, ◌
 use Rattle.std.specs.Prelude.{⊤}
 use Rattle.std.specs.Map.{update}
 use Rattle.std.specs.BTreeMap.{BTreeMap, IsEmpty, get_by_text}
-use Rattle.std.specs.Arc.{arc_value}
 use Rattle.std.proofs.lemmas.List.{length-map, length-set, map-append}
 use Rattle.std.proofs.lemmas.Bool.Decides.{nat_tests}
-use Rattle.gw_match.specs.model.Telling.{Stands, Tables, change_of, tables_of, world_after}
-use Rattle.gw_report.proofs.Applying.{changes_all, world_after as world_after_more}
-use Rattle.gw_store.specs.SeenEvents.{seen_event}
-use Rattle.gw_text.specs.model.Objects.{Event}
-use Rattle.gw_text.specs.model.World.{World, apply, is_full, is_one_too_many, nothing, world_of}
+use Rattle.gw_hub.specs.Control.{Control, Follows, with_change}
+use Rattle.gw_hub.proofs.Following.{world_more}
+use Rattle.gw_match.specs.model.Telling.{world_after}
+use Rattle.gw_text.specs.model.World.{World}
 use Rattle.gw_worker.proofs.Deciding.{begins_itself}
-use Rattle.gw_snap.specs.Lists.{BeginsWith, Lists, Seen, copies}
+use Rattle.gw_snap.specs.Lists.{BeginsWith, Seen, copies}
 use Rattle.gw_answers.specs.declared.books.Books.{Books}
 use Rattle.gw_store.specs.declared.event.Entry.{Entry}
 use Rattle.gw_text.specs.model.Doors.{Door}
 use Rattle.gw_worker.specs.declared.worker.Worker.{Worker}
 use Rattle.gw_json.specs.Lines.{line_of}
-use Rattle.gw_store.specs.Events.{answer, is_skipped, read_of}
 use Rattle.gw_replay.specs.Lines.{totals_data}
 use Rattle.gw_replay.specs.Replays.{Client as Plain, Site, State, totals_text, with_seen}
-use Rattle.gw_replay.specs.States.{HaveSeen, Keeps, Matches, site_of, worker_over}
+use Rattle.gw_replay.specs.States.{HaveSeen, Keeps, Matches, control_after, site_of, worker_over}
 use Rattle.gw_replay.specs.declared.replay.Client.{Client}
 use Rattle.gw_replay.specs.declared.replay.Replay.{Replay}
 
@@ -29,9 +26,7 @@ use Rattle.gw_replay.specs.declared.replay.Replay.{Replay}
 pub keeps_refused : (old new : Replay) (s : State) → new ≡ record old { text = new.text; refused = new.refused } → new.refused ≡ old.refused + 1 → Keeps old s
     → Keeps new (record s { refused = s.refused + 1 })
 keeps_refused old new s is counted k = subst (λ (r : Replay). Keeps r (record s { refused = s.refused + 1 })) (sym is) (record {
-  world = k.world;
-  publisher = k.publisher;
-  front = k.front;
+  controller = k.controller;
   begins = k.begins;
   workers = k.workers;
   seen = k.seen;
@@ -136,31 +131,17 @@ learned_more f ws n d w within is =
     let next : suc n ≡ n + 1 = omega arith in
     subst (λ (k : ℕ). set (map f (take n ws) ++ drop n ws) n w ≡ map f (take k ws) ++ drop k ws) next (one_learned f ws n d w within is)
 
--- a door, which one doesn't matter
-pub some_door : Door
-some_door = record { gateway = record { namespace = []; name = [] }; port = 0; at = record { a = 0; b = 0; c = 0; d = 0; port = 0 } }
-
--- the world of a change more
-pub world_more : (changes : List Entry) (entry : Entry) → world_after (changes ++ entry ∷ []) ≡ apply (world_after changes) (change_of entry)
-world_more changes entry = ap world_of (map-append change_of changes (entry ∷ [])) ∙ world_after_more nothing (map change_of changes) (change_of entry)
-
--- each change counts
-pub counted : (changes : List Entry) → (world_after changes).changes ≡ length changes
-counted changes = changes_all (map change_of changes) ∙ length-map changes change_of
-
 -- a connection was served
 pub keeps_served : (old new : Replay) (s : State) (n : ℕ) (w : Worker) (more : List ℕ) → Keeps old s
     → new ≡ record old { workers = new.workers; backends = new.backends; statuses = new.statuses; text = new.text }
-    → new.workers.items ≡ set s.workers n w → w.pass ≡ record { seen = s.published; fixed = (arc_value old.doors, arc_value old.controller) } → new.statuses.items ≡ s.statuses ++ more
+    → new.workers.items ≡ set s.workers n w → w.pass ≡ record { seen = s.published; fixed = (old.controller.doors, old.controller.controller) } → new.statuses.items ≡ s.statuses ++ more
     → Keeps new (record s { workers = set s.workers n w; backends = new.backends; statuses = s.statuses ++ more })
 keeps_served old new s n w more k is workers pass statuses =
     subst (λ (r : Replay). Keeps r (record s { workers = set s.workers n w; backends = new.backends; statuses = s.statuses ++ more })) (sym is) (record {
-      world = k.world;
-      publisher = k.publisher;
-      front = k.front;
+      controller = k.controller;
       begins = k.begins;
       workers = workers;
-      seen = seen_set (record { seen = s.published; fixed = (arc_value old.doors, arc_value old.controller) }) s.workers n w k.seen pass;
+      seen = seen_set (record { seen = s.published; fixed = (old.controller.doors, old.controller.controller) }) s.workers n w k.seen pass;
       clients = λ name. subst (λ (size : ℕ). Matches (site_of old) size (get_by_text old.clients name) (s.clients name)) (sym (length-set s.workers n w)) (k.clients name);
       backends = refl;
       statuses = statuses;
@@ -173,9 +154,7 @@ pub keeps_clients : (old new : Replay) (s : State) (clients : List ℕ → Optio
     → ((name : List ℕ) → Matches (site_of old) (length s.workers) (get_by_text new.clients name) (clients name)) → Keeps new (record s { clients = clients })
 keeps_clients old new s clients k is match =
     subst (λ (r : Replay). Keeps r (record s { clients = clients })) (sym is) (record {
-      world = k.world;
-      publisher = k.publisher;
-      front = k.front;
+      controller = k.controller;
       begins = k.begins;
       workers = k.workers;
       seen = k.seen;
@@ -186,21 +165,27 @@ keeps_clients old new s clients k is match =
       skipped = k.skipped;
     })
 
+-- a controller with the doors and the name of another
+pub controlled : (c d : Control) (changes published : List Entry) → c ≡ control_after d changes published → c ≡ control_after c changes published
+controlled c d changes published is = is ∙ sym (ap (λ (e : Control). control_after e changes published) is)
+
 -- all was published
 pub keeps_published : (old new : Replay) (s : State) → Keeps old s
-    → new ≡ record old { publisher = new.publisher; front = new.front; workers = new.workers; text = new.text }
-    → new.publisher ≡ record old.publisher { published = old.publisher.pending } → new.front ≡ old.world.world.changes → new.workers.items ≡ map (with_seen old.publisher.pending) old.workers.items
+    → new ≡ record old { controller = new.controller; workers = new.workers; text = new.text }
+    → new.controller ≡ record old.controller { published = old.controller.changes } → new.workers.items ≡ map (with_seen old.controller.changes) old.workers.items
     → Keeps new (record s { published = s.changes; workers = map (with_seen s.changes) s.workers })
-keeps_published old new s k is publisher front workers =
-    let pending : old.publisher.pending ≡ s.changes = ap (λ (p : Lists Entry (List Door × List ℕ)). p.pending) k.publisher in
+keeps_published old new s k is published workers =
+    let changes : old.controller.changes ≡ s.changes = ap (λ (c : Control). c.changes) k.controller in
+    let controller : new.controller ≡ control_after old.controller s.changes s.changes
+    = published ∙ ap (λ (c : Control). record c { published = c.changes }) k.controller in
     subst (λ (r : Replay). Keeps r (record s { published = s.changes; workers = map (with_seen s.changes) s.workers })) (sym is) (record {
-      world = k.world;
-      publisher = publisher ∙ ap (λ (p : Lists Entry (List Door × List ℕ)). record p { published = p.pending }) k.publisher;
-      front = front ∙ ap (λ (w : World). w.changes) k.world ∙ counted s.changes;
+      controller = controlled new.controller old.controller s.changes s.changes controller;
       begins = begins_itself s.changes;
-      workers = workers ∙ ap (λ (list : List Entry). map (with_seen list) old.workers.items) pending ∙ ap (map (with_seen s.changes)) k.workers;
-      seen = seen_all (record { seen = s.published; fixed = (arc_value old.doors, arc_value old.controller) }) s.changes s.workers k.seen;
-      clients = λ name. subst (λ (size : ℕ). Matches (site_of old) size (get_by_text old.clients name) (s.clients name)) (sym (length-map s.workers (with_seen s.changes))) (k.clients name);
+      workers = workers ∙ ap (λ (list : List Entry). map (with_seen list) old.workers.items) changes ∙ ap (map (with_seen s.changes)) k.workers;
+      seen = subst (λ (c : Control). HaveSeen (record { seen = s.changes; fixed = (c.doors, c.controller) }) (map (with_seen s.changes) s.workers)) (sym controller)
+          (seen_all (record { seen = s.published; fixed = (old.controller.doors, old.controller.controller) }) s.changes s.workers k.seen);
+      clients = λ name. subst (λ (c : Control). Matches (record { doors = c.doors; controller = c.controller }) (length (map (with_seen s.changes) s.workers)) (get_by_text old.clients name) (s.clients name)) (sym controller)
+          (subst (λ (size : ℕ). Matches (site_of old) size (get_by_text old.clients name) (s.clients name)) (sym (length-map s.workers (with_seen s.changes))) (k.clients name));
       backends = k.backends;
       statuses = k.statuses;
       refused = k.refused;
@@ -208,66 +193,40 @@ keeps_published old new s k is publisher front workers =
     })
 
 -- a change more
-pub keeps_added : (old new : Replay) (s : State) (entry : Entry) → Keeps old s → new ≡ record old { world = new.world; publisher = new.publisher }
-    → new.world.world ≡ apply old.world.world (change_of entry) → new.publisher ≡ record old.publisher { pending = old.publisher.pending ++ entry ∷ [] }
-    → Keeps new (record s { changes = s.changes ++ entry ∷ [] })
-keeps_added old new s entry k is world publisher =
+pub keeps_added : (old new : Replay) (s : State) (entry : Entry) → Keeps old s → new ≡ record old { controller = new.controller }
+    → new.controller ≡ with_change old.controller entry → Keeps new (record s { changes = s.changes ++ entry ∷ [] })
+keeps_added old new s entry k is change =
+    let controller : new.controller ≡ control_after old.controller (s.changes ++ entry ∷ []) s.published
+    = change ∙ ap (λ (c : Control). with_change c entry) k.controller
+    ∙ ap (λ (w : World). record { world = w; changes = s.changes ++ entry ∷ []; published = s.published; doors = old.controller.doors; controller = old.controller.controller }) (sym (world_more s.changes entry)) in
     subst (λ (r : Replay). Keeps r (record s { changes = s.changes ++ entry ∷ [] })) (sym is) (record {
-      world = world ∙ ap (λ (w : World). apply w (change_of entry)) k.world ∙ sym (world_more s.changes entry);
-      publisher = publisher ∙ ap (λ (p : Lists Entry (List Door × List ℕ)). record p { pending = p.pending ++ entry ∷ [] }) k.publisher;
-      front = k.front;
+      controller = controlled new.controller old.controller (s.changes ++ entry ∷ []) s.published controller;
       begins = (k.begins.0 ++ entry ∷ [], ap (λ (list : List Entry). list ++ entry ∷ []) k.begins.1 ∙ append_assoc s.published k.begins.0 (entry ∷ []));
       workers = k.workers;
-      seen = k.seen;
-      clients = k.clients;
+      seen = subst (λ (c : Control). HaveSeen (record { seen = s.published; fixed = (c.doors, c.controller) }) s.workers) (sym controller) k.seen;
+      clients = λ name. subst (λ (c : Control). Matches (record { doors = c.doors; controller = c.controller }) (length s.workers) (get_by_text old.clients name) (s.clients name)) (sym controller) (k.clients name);
       backends = k.backends;
       statuses = k.statuses;
       refused = k.refused;
       skipped = k.skipped;
     })
 
--- how many changes wait
-pub pending_count : (r : Replay) (s : State) → Keeps r s → length r.publisher.pending ≡ r.world.world.changes
-pending_count r s k = ap (λ (p : Lists Entry (List Door × List ℕ)). length p.pending) k.publisher ∙ sym (counted s.changes) ∙ sym (ap (λ (w : World). w.changes) k.world)
-
--- there is room for a number more
-pub room_left : (w : World) (event : Event) → is_full w event ≡ false → w.changes + 1 < 2 ^ 64
-unfolding is_full
-room_left w event room = go (is_one_too_many w event) room
-  where
-    go : (b : Bool) → (b || nat_le (2 ^ 64) (w.changes + 1)) ≡ false → w.changes + 1 < 2 ^ 64
-    go true e = cc
-    go false e = grind (arith, nat_tests, e)
-
--- the world of a change more, by what is kept
-pub world_added : (r : Replay) (s : State) (entry : Entry) (event : Event) (after : World) → Keeps r s → seen_event entry.event ≡ event
-    → after ≡ apply r.world.world (record { event = event; at = entry.at }) → after ≡ apply r.world.world (change_of entry)
-world_added r s entry event after k again is = is ∙ ap (λ (e : Event). apply r.world.world (record { event = e; at = entry.at })) (sym again)
-
--- tables of the world of a change more tell the list
-pub tables_tell : (r : Replay) (s : State) (entry : Entry) (t : Tables) (after : World) → Keeps r s → after ≡ apply r.world.world (change_of entry)
-    → t ≡ record { number = after.changes; doors = arc_value r.doors; controller = arc_value r.controller; tables = tables_of (arc_value r.doors) (arc_value r.controller) after }
-    → Stands t (r.publisher.pending ++ entry ∷ [])
-tables_tell r s entry t after k world is =
-    let pending : r.publisher.pending ≡ s.changes = ap (λ (p : Lists Entry (List Door × List ℕ)). p.pending) k.publisher in
-    let all : after ≡ world_after (r.publisher.pending ++ entry ∷ []) = world ∙ ap (λ (w : World). apply w (change_of entry)) k.world ∙ sym (world_more s.changes entry)
-    ∙ ap (λ (list : List Entry). world_after (list ++ entry ∷ [])) (sym pending) in
-    subst (λ (t : Tables). Stands t (r.publisher.pending ++ entry ∷ [])) (sym is) (record {
-      number = ap (λ (w : World). w.changes) all ∙ counted (r.publisher.pending ++ entry ∷ []);
-      tables = ap (tables_of (arc_value r.doors) (arc_value r.controller)) all;
-    })
-
 -- the last line, by what is kept
 pub totals_are : (r : Replay) (s : State) → Keeps r s
-    → line_of (totals_data r.world.world.changes r.front r.refused r.statuses.items r.skipped) ≡ totals_text s
-totals_are r s k = rw (k.world, counted s.changes, k.front, k.refused, k.statuses, k.skipped) refl
+    → line_of (totals_data (length r.controller.changes) (length r.controller.published) r.refused r.statuses.items r.skipped) ≡ totals_text s
+totals_are r s k =
+    let changes : r.controller.changes ≡ s.changes = ap (λ (c : Control). c.changes) k.controller in
+    let published : r.controller.published ≡ s.published = ap (λ (c : Control). c.published) k.controller in
+    rw (changes, published, k.refused, k.statuses, k.skipped) refl
+
+-- the objects are those after the changes
+pub follows : (r : Replay) (s : State) → Keeps r s → Follows r.controller
+follows r s k = ap (λ (c : Control). c.world) k.controller ∙ sym (ap (λ (c : Control). world_after c.changes) k.controller)
 
 -- an event is skipped
 pub keeps_skipped : (old : Replay) (n : ℕ) (s : State) → n ≡ old.skipped + 1 → Keeps old s → Keeps (record old { skipped = n }) (record s { skipped = s.skipped + 1 })
 keeps_skipped old n s is k = record {
-  world = k.world;
-  publisher = k.publisher;
-  front = k.front;
+  controller = k.controller;
   begins = k.begins;
   workers = k.workers;
   seen = k.seen;
@@ -277,10 +236,6 @@ keeps_skipped old n s is k = record {
   refused = k.refused;
   skipped = is ∙ ap (λ n. n + 1) k.skipped;
 }
-
-pub answers_skipped : (w : World) (line : List ℕ) → read_of line ≡ Ok is_skipped → answer w line ≡ Ok is_skipped
-unfolding answer
-answers_skipped w line read = rw read refl
 
 -- no connection is open
 pub none_there : (m : BTreeMap (String Global) Client) (name : List ℕ) → IsEmpty m → get_by_text m name ≡ None

@@ -1,6 +1,5 @@
 -- What comes of a piece.
 use Rattle.std.proofs.Common.{◌≡◌, ◌∙◌, ℕ, ◌<◌, ◌≤◌, Bool, List, [], ◌∷◌, ◌++◌, length, map, set, drop, Some, refl, sym, subst, ap, arith, append_assoc, length-append, slice_get, get_or, ◌==◌}
-use Rattle.std.specs.Arc.{arc_value}
 use Rattle.std.proofs.lemmas.Option.{slice_get-get_or}
 use Rattle.gw_answers.specs.model.ServedRows.{ServedRow}
 use Rattle.gw_frames.specs.model.Requests.{ended}
@@ -91,9 +90,9 @@ worker_at r s c plain w k client at =
     (subst (λ (ws : List Worker). slice_get ws c.worker ≡ Some w) k.workers (slice_get-get_or r.workers.items c.worker w within ∙ ap Some (sym at)))
 
 pub worker_seen : (r : Replay) (s : State) (c : Client) (plain : Plain) (w : Worker) → Keeps r s → IsClient (site_of r) (length s.workers) c plain → w ≡ get_or r.workers.items c.worker w
-    → w.pass ≡ record { seen = s.published; fixed = (arc_value r.doors, arc_value r.controller) }
+    → w.pass ≡ record { seen = s.published; fixed = (r.controller.doors, r.controller.controller) }
 worker_seen r s c plain w k client at =
-    seen_at (record { seen = s.published; fixed = (arc_value r.doors, arc_value r.controller) }) s.workers plain.worker w k.seen (worker_at r s c plain w k client at)
+    seen_at (record { seen = s.published; fixed = (r.controller.doors, r.controller.controller) }) s.workers plain.worker w k.seen (worker_at r s c plain w k client at)
 
 pub is_at : (site : Site) (door : ℕ) (seen : List Entry) (w : Worker) → w.pass ≡ record { seen = seen; fixed = (site.doors, site.controller) } → IsAt w (place_at site door)
 is_at site door seen w is = record {

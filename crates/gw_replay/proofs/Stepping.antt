@@ -1,8 +1,11 @@
 -- What one line does.
-use Rattle.std.proofs.Common.{◌≡◌, ◌∙◌, ℕ, ℤ, List, [], ◌∷◌, length, false, Option, Some, None, Result, Ok, Err, refl, sym, subst, ap, bytes_eq, is_some, OnOk}
+use Rattle.std.proofs.Common.{◌≡◌, ◌∙◌, ℕ, ℤ, ◌+◌, List, [], ◌∷◌, ◌++◌, append-nil, length, string_bytes, false, Option, Some, None, Result, Ok, Err, refl, sym, subst, ap, bytes_eq, is_some, OnOk}
 use Rattle.std.specs.BTreeMap.{get_by_text}
 use Rattle.std.specs.Map.{update}
 use Rattle.gw_frames.specs.declared.ended.Ended.{Ended}
+use Rattle.gw_hub.specs.Control.{Comes, Control}
+use Rattle.gw_hub.specs.declared.outcome.Outcome.{Outcome}
+use Rattle.gw_hub.specs.declared.outcome.Outcome.TheVariants.{Accepted, Skipped}
 use Rattle.gw_link.specs.Moments.{Ticks}
 use Rattle.gw_script.specs.Scripts.{step_of}
 use Rattle.gw_script.specs.Steps.{Step}
@@ -13,13 +16,13 @@ use Rattle.gw_json.specs.Refusals.{refusal_number, refusal_path}
 use Rattle.gw_json.specs.declared.refusal.Refusal.{Refusal}
 use Rattle.gw_match.specs.model.Telling.{world_after}
 use Rattle.gw_store.specs.Events.{Read, answer}
-use Rattle.gw_text.specs.model.World.{World}
+use Rattle.gw_store.specs.SeenEvents.{seen_event}
 use Rattle.gw_worker.specs.model.Sessions.{Place}
 use Rattle.gw_replay.specs.Replays.{Client as Plain, Begins, EventDone, IsNoStep, IsRefused, Sends, Serves, Site, State}
-use Rattle.gw_replay.specs.States.{Does, DoesInTurn, IsClient, Keeps, Matches, site_of}
+use Rattle.gw_replay.specs.States.{Does, DoesInTurn, IsClient, Keeps, Matches, site_of, skipped_after}
 use Rattle.gw_replay.specs.declared.replay.Client.{Client}
 use Rattle.gw_replay.specs.declared.replay.Replay.{Replay}
-use Rattle.gw_replay.proofs.Keeping.{keeps_clients, matches_put}
+use Rattle.gw_replay.proofs.Keeping.{keeps_added, keeps_clients, keeps_skipped, matches_put}
 
 -- what was done, said otherwise
 pub does_so : {P Q : State → State → List ℕ → Type 0} (old new : Replay) → ((s s' : State) (text : List ℕ) → Keeps old s → P s s' text → Q s s' text) → Does P old new → Does Q old new
@@ -107,12 +110,46 @@ pub on_named : {T E N X Y : Type 0} (r : Result T E) → OnOk r N → (N → OnO
 on_named (Ok x) named does weaker = weaker named (does named)
 on_named (Err e) named does weaker = tt
 
+-- an event that is taken, or is no change
+event_done : (old : Replay) (control : Control) (n : ℕ) (now : ℤ) (event : List ℕ) (outcome : Outcome) → Comes (answer old.controller.world event) now outcome old.controller control
+    → Does (λ s s' text. EventDone n now (answer (world_after s.changes) event) s s' text) old (record old { controller = control; skipped = skipped_after outcome old.skipped })
+event_done old control n now event Accepted came = record {
+  site = ap (λ (c : Control). record { doors = c.doors; controller = c.controller }) came.1.2;
+  did = λ s k. record {
+    state = record s { changes = s.changes ++ came.0 ∷ [] };
+    text = [];
+    does_so = subst (λ (r : Result Read Refusal). EventDone n now r s (record s { changes = s.changes ++ came.0 ∷ [] }) [])
+        (sym (ap (λ (c : Control). answer c.world event) (sym k.controller) ∙ came.1.0))
+        (came.0, (ap (λ (at : ℤ). record { event = seen_event came.0.event; at = at }) came.1.1, refl, refl));
+    keeps = keeps_added old (record old { controller = control }) s came.0 k refl came.1.2;
+    printed = sym (append-nil _);
+  };
+}
+event_done old control n now event Skipped came =
+    subst (λ (c : Control). Does (λ s s' text. EventDone n now (answer (world_after s.changes) event) s s' text) old (record old { controller = c; skipped = old.skipped + 1 })) (sym came.1) (record {
+      site = refl;
+      did = λ s k. record {
+        state = record s { skipped = s.skipped + 1 };
+        text = [];
+        does_so = subst (λ (r : Result Read Refusal). EventDone n now r s (record s { skipped = s.skipped + 1 }) [])
+            (sym (ap (λ (c : Control). answer c.world event) (sym k.controller) ∙ came.0)) (refl, refl);
+        keeps = keeps_skipped old (old.skipped + 1) s refl k;
+        printed = sym (append-nil _);
+      };
+    })
+
+pub event_came : (old new : Replay) (control : Control) (n : ℕ) (now : ℤ) (event : List ℕ) (outcome : Outcome)
+    → new ≡ record old { controller = control; skipped = skipped_after outcome old.skipped } → Comes (answer old.controller.world event) now outcome old.controller control
+    → Does (λ s s' text. EventDone n now (answer (world_after s.changes) event) s s' text) old new
+event_came old new control n now event outcome is came =
+    subst (λ (r : Replay). Does (λ s s' text. EventDone n now (answer (world_after s.changes) event) s s' text) old r) (sym is) (event_done old control n now event outcome came)
+
 -- an event that is refused
-pub refused_event : (old mid new : Replay) (n : ℕ) (now : ℤ) (event : List ℕ) (e : Refusal) → mid ≡ old → answer old.world.world event ≡ Err e
+pub refused_event : (old mid new : Replay) (n : ℕ) (now : ℤ) (event : List ℕ) (e : Refusal) → mid ≡ old → answer old.controller.world event ≡ Err e
     → Does (λ s s' text. IsRefused n (refusal_number e) (refusal_path e) s s' text) mid new
     → Does (λ s s' text. EventDone n now (answer (world_after s.changes) event) s s' text) old new
 refused_event old mid new n now event e same is d =
-    does_so old new (λ s s' text k no. subst (λ (r : Result Read Refusal). EventDone n now r s s' text) (sym (ap (λ (w : World). answer w event) (sym k.world) ∙ is)) no)
+    does_so old new (λ s s' text k no. subst (λ (r : Result Read Refusal). EventDone n now r s s' text) (sym (ap (λ (c : Control). answer c.world event) (sym k.controller) ∙ is)) no)
     (subst (λ (r : Replay). Does (λ s s' text. IsRefused n (refusal_number e) (refusal_path e) s s' text) r new) same d)
 
 -- a line that is no step is refused so

@@ -1,17 +1,15 @@
 -- How what the code keeps stands for what the lines so far have done.
-use Rattle.std.specs.Prelude.{◌≡◌, ℕ, ℤ, ◌<◌, ◌≤◌, List, [], ◌∷◌, ◌++◌, length, Option, Some, None, Result, Ok, ⊤, string_bytes}
-use Rattle.std.specs.Arc.{arc_value}
+use Rattle.std.specs.Prelude.{◌≡◌, ℕ, ℤ, ◌+◌, ◌<◌, ◌≤◌, List, [], ◌∷◌, ◌++◌, length, Option, Some, None, ⊤, string_bytes}
 use Rattle.std.specs.BTreeMap.{get_by_text}
 use Rattle.gw_frames.specs.declared.ended.Ended.{Ended}
+use Rattle.gw_hub.specs.Control.{Control}
+use Rattle.gw_hub.specs.declared.outcome.Outcome.{Outcome}
+use Rattle.gw_hub.specs.declared.outcome.Outcome.TheVariants.{Accepted, Skipped}
 use Rattle.gw_link.specs.Moments.{TicksInTurn}
 use Rattle.gw_link.specs.declared.order.Order.{Order}
 use Rattle.gw_match.specs.model.Telling.{world_after}
 use Rattle.gw_snap.specs.Lists.{BeginsWith, Seen}
-use Rattle.gw_json.specs.declared.refusal.Refusal.{Refusal}
-use Rattle.gw_store.specs.Events.{Read, a_change, is_skipped}
-use Rattle.gw_store.specs.SeenEvents.{seen_event}
 use Rattle.gw_store.specs.declared.event.Entry.{Entry}
-use Rattle.gw_store.specs.declared.event.Event.{Event}
 use Rattle.gw_text.specs.model.Addresses.{Socket}
 use Rattle.gw_text.specs.model.Doors.{Door}
 use Rattle.gw_worker.specs.Conns.{IsServing, StandsFor}
@@ -28,7 +26,12 @@ worker_over pass = record { pass = pass; books = record { backends = []; endpoin
 
 -- The doors and the controller's name.
 abbrev pub site_of : Replay → Site
-site_of r = record { doors = arc_value r.doors; controller = arc_value r.controller }
+site_of r = record { doors = r.controller.doors; controller = r.controller.controller }
+
+-- A controller after these changes, of which these are published.
+abbrev pub control_after : Control → List Entry → List Entry → Control
+control_after c changes published =
+    record { world = world_after changes; changes = changes; published = published; doors = c.doors; controller = c.controller }
 
 -- An open connection.
 pub record IsClient (site : Site) (workers : ℕ) (c : Client) (plain : Plain) : Type 0 where
@@ -52,12 +55,10 @@ HaveSeen seen (w ∷ workers) = (w.pass ≡ seen) × HaveSeen seen workers
 
 -- What is kept is what stands after the lines so far.
 pub record Keeps (r : Replay) (s : State) : Type 0 where
-  pub world : r.world.world ≡ world_after s.changes
-  pub publisher : r.publisher ≡ record { pending = s.changes; published = s.published; fixed = (arc_value r.doors, arc_value r.controller) }
-  pub front : r.front ≡ length s.published
+  pub controller : r.controller ≡ control_after r.controller s.changes s.published
   pub begins : BeginsWith s.published s.changes
   pub workers : r.workers.items ≡ s.workers
-  pub seen : HaveSeen (record { seen = s.published; fixed = (arc_value r.doors, arc_value r.controller) }) s.workers
+  pub seen : HaveSeen (record { seen = s.published; fixed = (r.controller.doors, r.controller.controller) }) s.workers
   pub clients : (name : List ℕ) → Matches (site_of r) (length s.workers) (get_by_text r.clients name) (s.clients name)
   pub backends : r.backends ≡ s.backends
   pub statuses : r.statuses.items ≡ s.statuses
@@ -85,10 +86,10 @@ HasClient r c = (s : State) × ((plain : Plain) × (Keeps r s × IsClient (site_
 abbrev pub IsKept : Replay → Type 0
 IsKept r = (s : State) × Keeps r s
 
--- One change more.
-pub record Adds (entry : Entry) (s s' : State) (text : List ℕ) : Type 0 where
-  pub state : s' ≡ record s { changes = s.changes ++ entry ∷ [] }
-  pub text_is : text ≡ []
+-- How many events are no change, after one more event.
+abbrev pub skipped_after : Outcome → ℕ → ℕ
+skipped_after Accepted n = n
+skipped_after Skipped n = n + 1
 
 -- An answer of a backend, or a call of it that fails, from now on.
 abbrev pub Orders : Order → State → State → List ℕ → Type 0
@@ -132,8 +133,3 @@ RunsTo line lines before after old new = DoesInTurn (λ moments s s' text. Runs 
 abbrev pub AreAtMost : ℕ → List (ℕ × ℕ) → Type 0
 AreAtMost most [] = ⊤
 AreAtMost most (e ∷ counts) = (e.1 ≤ most) × AreAtMost most counts
-
--- The change that a line says, twice, or none.
-abbrev pub IsTwice : Option (Event × Event) → Result Read Refusal → Type 0
-IsTwice None read = read ≡ Ok is_skipped
-IsTwice (Some twice) read = (read ≡ Ok (a_change (seen_event twice.0))) × (seen_event twice.1 ≡ seen_event twice.0)

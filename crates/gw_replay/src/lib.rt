@@ -10,7 +10,6 @@ mod print;
 mod publications;
 mod replay;
 mod rows;
-mod tables;
 mod totals;
 
 pub use output::replay_output;

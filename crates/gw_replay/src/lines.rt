@@ -44,7 +44,7 @@ impl Replay {
         if is_blank(line) {
             return Ok(());
         }
-        let doors = self.doors.doors().len();
+        let doors = self.controller.doors();
         match read_step(self.alloc, line, self.workers.len(), doors) {
             Ok(step) => self.step(number, step, clock),
             Err(refusal) => self.refuse_line(number, refusal),

@@ -1,5 +1,5 @@
 //! Publications.
-ghost use Rattle.std.specs.Prelude.{◌≡◌, ◌+◌, ◌^◌, List, OnOk, map};
+ghost use Rattle.std.specs.Prelude.{◌≡◌, List, OnOk, map};
 ghost use Rattle.gw_snap.specs.Lists.{BeginsWith};
 ghost use Rattle.gw_store.specs.declared.event.Entry.{Entry as Change};
 ghost use Rattle.gw_replay.specs.Replays.{Publishes, with_seen};
@@ -20,10 +20,9 @@ impl Replay {
         ensures refused { self.new.refused ≡ self.old.refused }
         ensures skipped { self.new.skipped ≡ self.old.skipped }
     {
-        let note = self.publisher.publish()?;
+        let note = self.controller.publish()?;
         learn_all(&mut self.workers, &note)?;
-        self.front = self.world.changes();
-        push_front(self.alloc, &mut self.text, self.front, number)
+        push_front(self.alloc, &mut self.text, self.controller.front(), number)
     }
 }
 

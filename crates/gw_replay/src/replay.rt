@@ -1,19 +1,18 @@
 //! What is kept from line to line.
-ghost use Rattle.std.specs.Prelude.{◌≡◌, ◌<◌, ◌^◌, [], IfOk, string_bytes};
-ghost use Rattle.std.specs.Arc.{arc_value};
+ghost use Rattle.std.specs.Prelude.{◌≡◌, ◌++◌, ◌<◌, ◌^◌, [], IfOk, map, string_bytes};
+ghost use Rattle.gw_hub.specs.Control.{beginning as new_control};
+ghost use Rattle.gw_snap.specs.Lists.{copies};
 ghost use Rattle.gw_replay.specs.Replays.{beginning};
-ghost use Rattle.gw_replay.specs.States.{Keeps, site_of};
+ghost use Rattle.gw_replay.specs.States.{Keeps, site_of, worker_over};
 
-use crate::tables::{opened, tables_after, workers_over};
+use gw_hub::Controller;
 use gw_link::MemUpstream;
 use gw_match::Tables;
-use gw_snap::Publisher;
-use gw_store::World;
+use gw_snap::Passes;
 use gw_text::{Doors, NoMemory, Text};
 use gw_worker::{Conn, Worker};
 use std::alloc::Global;
 use std::collections::BTreeMap;
-use std::sync::Arc;
 
 /// An open connection, and the number of its worker.
 #[derive(Drop)]
@@ -26,12 +25,7 @@ pub(crate) struct Client {
 #[derive(Drop)]
 pub(crate) struct Replay {
     pub(crate) alloc: Global,
-    pub(crate) doors: Arc<Doors>,
-    pub(crate) controller: Arc<Text>,
-    pub(crate) world: World,
-    pub(crate) publisher: Publisher<Tables>,
-    /// How many changes are published.
-    pub(crate) front: u64,
+    pub(crate) controller: Controller,
     pub(crate) workers: Vec<Worker>,
     /// The open connections by their names.
     pub(crate) clients: BTreeMap<String, Client>,
@@ -60,19 +54,11 @@ impl Replay {
         ensures refused { IfOk result (λ r. r.refused ≡ 0) }
         ensures skipped { IfOk result (λ r. r.skipped ≡ 0) }
     {
-        let world = World::new(alloc);
-        let doors = Arc::new(alloc, doors)?;
-        let controller = Arc::new(alloc, controller)?;
-        let first = tables_after(alloc, &doors, &controller, &world)?;
-        let (publisher, passes) = opened(alloc, first, workers)?;
+        let (controller, passes) = opened(alloc, doors, controller, workers)?;
         let workers = workers_over(alloc, passes)?;
         Ok(Replay {
             alloc,
-            doors,
             controller,
-            world,
-            publisher,
-            front: 0,
             workers,
             clients: BTreeMap::new(alloc),
             backends: MemUpstream::new(alloc, Vec::new(alloc)),
@@ -82,4 +68,35 @@ impl Replay {
             text: String::new(alloc),
         })
     }
+}
+
+// A controller that took no change, and a pass for each of so many workers.
+fn opened(
+    alloc: Global,
+    doors: Doors,
+    controller: Text,
+    workers: usize,
+) -> Result<(Controller, Passes<Tables>), NoMemory>
+    requires some { 0 < workers }
+    requires few { workers < 2 ^ 32 }
+    ensures controller { IfOk result (λ opened. opened.0 ≡ new_control doors controller) }
+    ensures passes { IfOk result (λ opened. opened.1 ≡ copies workers (record { seen = []; fixed = (doors, controller) })) }
+{
+    // In this form there is always a place.
+    match Controller::open(alloc, doors, controller, workers) {
+        Ok(opened) => Ok(opened),
+        Err(_) => Err(NoMemory),
+    }
+}
+
+// A worker over each of the passes.
+fn workers_over(alloc: Global, passes: Passes<Tables>) -> Result<Vec<Worker>, NoMemory>
+    ensures { IfOk result (λ workers. workers.items ≡ map worker_over passes) }
+{
+    let mut workers = Vec::new(alloc);
+    let mut left = passes;
+    'passes: while let Some(pass) = left.take() {
+        workers.push(Worker::new(alloc, pass))?;
+    }
+    Ok(workers)
 }

@@ -3,7 +3,7 @@ ghost use Rattle.std.specs.Prelude.{◌≡◌, ℕ, ◌+◌, ◌<◌, ◌^◌, �
 ghost use Rattle.serde_json.specs.View.{members_view, view};
 ghost use Rattle.gw_replay.specs.Lines as lines;
 ghost use Rattle.gw_replay.specs.Replays.{State, totals_text};
-ghost use Rattle.gw_replay.specs.States.{AreAtMost, Keeps};
+ghost use Rattle.gw_replay.specs.States.{AreAtMost, IsKept, Keeps};
 
 use crate::replay::Replay;
 use gw_json::{push_line, put_number};
@@ -14,6 +14,7 @@ use std::alloc::Global;
 impl Replay {
     /// Writes the last line: what was taken, published, refused and skipped, and the rows by their statuses.
     pub(crate) fn end(&mut self) -> Result<(), NoMemory>
+        requires { IsKept self.old }
         ensures text { OnOk result ((s : State) → Keeps self.old s → string_bytes self.new.text ≡ string_bytes self.old.text ++ totals_text s) }
         ensures refused { self.new.refused ≡ self.old.refused }
     {
@@ -22,12 +23,13 @@ impl Replay {
     }
 
     fn totals(&self) -> Result<Value, NoMemory>
-        ensures { IfOk result (λ v. view v ≡ lines.totals_data self.now.world.world.changes self.now.front self.now.refused self.now.statuses.items self.now.skipped) }
+        requires { IsKept self.now }
+        ensures { IfOk result (λ v. view v ≡ lines.totals_data (length self.now.controller.changes) (length self.now.controller.published) self.now.refused self.now.statuses.items self.now.skipped) }
     {
         let statuses = statuses_value(self.alloc, self.statuses.as_slice())?;
         json!(in self.alloc; {
-            "changes": self.world.changes(),
-            "front": self.front,
+            "changes": self.controller.changes(),
+            "front": self.controller.front(),
             "refused": self.refused,
             "requests": self.statuses.len(),
             "skipped": self.skipped,

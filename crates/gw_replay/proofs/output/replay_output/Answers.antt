@@ -4,6 +4,11 @@ use Rattle.gw_report.specs.Lines.{lines_of}
 use Rattle.gw_replay.specs.Replays.{Runs, Site, beginning, totals_text}
 use Rattle.gw_replay.proofs.output.replay_output.Goals as goal
 
+pub end-requires : goal.end-requires
+end-requires g c =
+    let x = c.in_ok-lines.ensures.done.did (beginning (record { doors = c.args.doors; controller = c.args.controller }) c.args.workers) c.in_ok-replay.ensures.keeps in
+    (x.state, x.keeps)
+
 pub returns : goal.returns
 returns g c =
     let start = beginning (record { doors = c.args.doors; controller = c.args.controller }) c.args.workers in

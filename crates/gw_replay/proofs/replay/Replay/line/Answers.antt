@@ -30,13 +30,13 @@ returns-in-Ok-clause-does g c = on_ok_weaker c.step.result (λ d. turns_so
     {Q = λ moments s s' text. LineDone (is_blank c.args.line.now) (site_of c.args.self.now) c.args.number c.args.line.now moments s s' text} _ _ c.args.self.now c.step.new.self
     (λ moments s s' text k done. subst (λ (b : Bool). LineDone b (site_of c.args.self.now) c.args.number c.args.line.now moments s s' text) (sym (sym c.is_blank.ensures ∙ c.if-is_blank.false))
     (subst (λ (said : Result Step StepRefusal). SaidDone (site_of c.args.self.now) c.args.number said moments s s' text)
-    (sym (said_there c.len.result (length s.workers) (length c.doors-doors.result.now) (length (site_of c.args.self.now).doors) c.args.line.now _
-    (c.len.ensures ∙ c.args.self.now.workers.ok.0 ∙ ap length k.workers) (ap length (c.doors-doors.ensures.value ∙ c.deref.ensures)) c.in-Ok.ensures.step)) done)) d) c.step.ensures.does
+    (sym (said_there c.len.result (length s.workers) c.doors-doors.result (length (site_of c.args.self.now).doors) c.args.line.now _
+    (c.len.ensures ∙ c.args.self.now.workers.ok.0 ∙ ap length k.workers) c.doors-doors.ensures c.in-Ok.ensures.step)) done)) d) c.step.ensures.does
 
 pub returns-in-Err-clause-does : goal.returns-in-Err-clause-does
 returns-in-Err-clause-does g c = on_named c.refuse_line.result c.refuse_line.ensures.named (λ named. c.refuse_line.ensures.does) (λ named d. without_moment
     {Q = λ moments s s' text. LineDone (is_blank c.args.line.now) (site_of c.args.self.now) c.args.number c.args.line.now moments s s' text} _ c.args.self.now c.refuse_line.new.self
     (λ s s' text k done. subst (λ (b : Bool). LineDone b (site_of c.args.self.now) c.args.number c.args.line.now [] s s' text) (sym (sym c.is_blank.ensures ∙ c.if-is_blank.false))
     (subst (λ (said : Result Step StepRefusal). SaidDone (site_of c.args.self.now) c.args.number said [] s s' text)
-    (sym (said_there c.len.result (length s.workers) (length c.doors-doors.result.now) (length (site_of c.args.self.now).doors) c.args.line.now _
-    (c.len.ensures ∙ c.args.self.now.workers.ok.0 ∙ ap length k.workers) (ap length (c.doors-doors.ensures.value ∙ c.deref.ensures)) (said_err _ c.in-Err.refusal c.in-Err.ensures.step named))) (refl, done))) d)
+    (sym (said_there c.len.result (length s.workers) c.doors-doors.result (length (site_of c.args.self.now).doors) c.args.line.now _
+    (c.len.ensures ∙ c.args.self.now.workers.ok.0 ∙ ap length k.workers) c.doors-doors.ensures (said_err _ c.in-Err.refusal c.in-Err.ensures.step named))) (refl, done))) d)

@@ -4,8 +4,8 @@ use Rattle.std.proofs.lemmas.List.{map-append, map_more}
 use Rattle.std.specs.Arc.{arc_value}
 use Rattle.gw_rows.specs.model.DoorRows.{rows_of}
 use Rattle.gw_rows.specs.model.Rows.{Rows}
-use Rattle.gw_replay.proofs.Keeping.{some_door}
-use Rattle.gw_replay.proofs.tables.tables_after.Goals as goal
+use Rattle.gw_hub.proofs.Following.{some_door}
+use Rattle.gw_hub.proofs.tables.tables_after.Goals as goal
 
 pub doors-preserved : goal.doors-preserved
 doors-preserved c =
