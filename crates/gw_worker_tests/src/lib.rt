@@ -1,0 +1,10 @@
+//! Tests of connections over public calls, with links and backends in memory. They stand alone, since a crate with tests is proved
+//! twice.
+#![tactic(auto)]
+
+#[cfg(test)]
+mod failing;
+#[cfg(test)]
+mod pieces;
+#[cfg(test)]
+mod server;
