@@ -75,6 +75,7 @@ pub(crate) struct Server {
 }
 
 impl Server {
+    /// One over a worker that has seen all events.
     pub(crate) fn new(alloc: Global) -> Result<Server, Fail> {
         let worker = worker(alloc)?;
         Ok(Server { worker })
