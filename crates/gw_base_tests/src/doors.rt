@@ -2,7 +2,7 @@
 use gw_text::{
     Door, DoorFault, Doors, Host, Key, Meta, Second, Socket, Text, TextFault, parse_ipv4,
 };
-use std::alloc::Global;
+use std::alloc::{AllocError, Global};
 use std::net::Ipv4Addr;
 use std::test::Fail;
 
@@ -251,19 +251,41 @@ fn doors_of_a_gateway(rt: HostRuntime) -> Result<(), Fail> {
 }
 
 #[test]
-fn copies_are_the_same(rt: HostRuntime) -> Result<(), Fail> {
-    let door = Door::parse(rt.alloc(), "shop/web:80=127.0.0.1:8080")?.copy(rt.alloc())?;
-    assert!(rt; door.at.port == 8080);
+fn a_copy_of_a_door_is_the_same(rt: HostRuntime) -> Result<(), Fail> {
+    let door = Door::parse(rt.alloc(), "shop/web:80=127.0.0.1:8080")?;
+    let copy = door.copy(rt.alloc())?;
+    assert!(rt; copy.at.port == 8080 && copy.gateway == door.gateway);
+    Ok(())
+}
+
+#[test]
+fn a_copy_of_a_host_is_the_same(rt: HostRuntime) -> Result<(), Fail> {
     let host = Host::parse(rt.alloc(), "*.example.com")?.copy(rt.alloc())?;
-    assert!(rt; host.wild);
+    assert!(rt; host.wild && host.text.bytes() == b"example.com".as_slice());
+    Ok(())
+}
+
+#[test]
+fn a_copy_of_a_text_is_the_same(rt: HostRuntime) -> Result<(), Fail> {
     let text = Text::of(rt.alloc(), "web")?.copy(rt.alloc())?;
     assert!(rt; text.bytes() == b"web".as_slice());
+    Ok(())
+}
+
+// Of the metadata of an object with this key.
+fn copied_meta(alloc: Global, key: Key) -> Result<Meta, AllocError> {
     let meta = Meta {
-        key: door.gateway.copy(rt.alloc())?,
+        key,
         created: Some(Second(7)),
         generation: 1,
     };
-    let meta = meta.copy(rt.alloc())?;
-    assert!(rt; meta.key == door.gateway && meta.created == Some(Second(7)));
+    meta.copy(alloc)
+}
+
+#[test]
+fn a_copy_of_metadata_is_the_same(rt: HostRuntime) -> Result<(), Fail> {
+    let key = Key::parse(rt.alloc(), "shop/web")?;
+    let meta = copied_meta(rt.alloc(), key.copy(rt.alloc())?)?;
+    assert!(rt; meta.key == key && meta.created == Some(Second(7)));
     Ok(())
 }

@@ -87,19 +87,36 @@ fn draws(book: &mut Book, keys: &[Key], pick: usize) -> Result<bool, NoMemory> {
     Ok(true)
 }
 
+// Names that are alike where a namespace and a name are put together.
+const NAMES: &[&str] = &["a/bc", "ab/c", "a/c"];
+
+fn keys(alloc: Global) -> Result<Vec<Key>, Fail> {
+    let mut keys = Vec::new(alloc);
+    for name in NAMES {
+        keys.push(Key::parse(alloc, name)?)?;
+    }
+    Ok(keys)
+}
+
+const PICKS: &[usize] = &[0, 1, 0];
+
 #[test]
 fn keeps_choices_apart(rt: HostRuntime) -> Result<(), Fail> {
     let mut book = Book::new(rt.alloc());
-    let keys = [
-        Key::parse(rt.alloc(), "a/bc")?,
-        Key::parse(rt.alloc(), "ab/c")?,
-        Key::parse(rt.alloc(), "a/c")?,
-    ];
-    assert!(rt; draws(&mut book, &keys, 0)?);
-    assert!(rt; draws(&mut book, &keys, 1)?);
-    assert!(rt; draws(&mut book, &keys, 0)?);
-    assert!(rt; book.draw(&keys[0], 0, &[1, 1, 1])? == Some(0));
-    assert!(rt; book.draw(&keys[0], 0, &[0, 0])?.is_none());
+    let keys = keys(rt.alloc())?;
+    for pick in PICKS {
+        assert!(rt; draws(&mut book, keys.as_slice(), *pick)?, "{pick}");
+    }
+    Ok(())
+}
+
+#[test]
+fn keeps_weights_apart(rt: HostRuntime) -> Result<(), Fail> {
+    let mut book = Book::new(rt.alloc());
+    let key = Key::parse(rt.alloc(), "a/bc")?;
+    assert!(rt; book.draw(&key, 0, &[1, 1])? == Some(0));
+    assert!(rt; book.draw(&key, 0, &[1, 1, 1])? == Some(0));
+    assert!(rt; book.draw(&key, 0, &[0, 0])?.is_none());
     Ok(())
 }
 

@@ -105,16 +105,31 @@ fn told(alloc: Global, statuses: &Statuses) -> Result<String, NoMemory> {
     Ok(text)
 }
 
-// What the statuses of the drawn world say. Fails where the second evaluation says something else.
-fn compared(alloc: Global, seed: u64) -> Result<String, Fail> {
-    let plain = world_of(alloc, seed)?;
-    let wanted = naive::told(alloc, &plain)?;
-    let world = read(alloc, &plain, seed % 2 == 0)?;
-    let told = told(alloc, &evaluated(alloc, &world)?)?;
-    if told.as_str() != wanted.as_str() {
+// What the statuses of a world say.
+fn told_of(alloc: Global, world: &World) -> Result<String, NoMemory> {
+    let statuses = evaluated(alloc, world)?;
+    told(alloc, &statuses)
+}
+
+// The same of the world of these lines.
+fn told_by(alloc: Global, plain: &Plain, backwards: bool) -> Result<String, Refusal> {
+    let world = read(alloc, plain, backwards)?;
+    Ok(told_of(alloc, &world)?)
+}
+
+fn agreed(alloc: Global, seed: u64, told: String, wanted: &str) -> Result<String, Fail> {
+    if told.as_str() != wanted {
         return Err(Fail::new(format!(in alloc; "seed {seed}\n{told}wanted\n{wanted}")?));
     }
     Ok(told)
+}
+
+// What the statuses of the drawn world say. Fails where the second evaluation says something else.
+fn compared(alloc: Global, seed: u64) -> Result<String, Fail> {
+    let plain = world_of(alloc, seed)?;
+    let told = told_by(alloc, &plain, seed % 2 == 0)?;
+    let wanted = naive::told(alloc, &plain)?;
+    agreed(alloc, seed, told, wanted.as_str())
 }
 
 // What one world or another has to say, so that none of it is left out.

@@ -222,26 +222,41 @@ fn key_of(alloc: Global, row: &str) -> Result<Key, Fail> {
     Ok(Key::parse(alloc, key)?)
 }
 
-#[test]
-fn gateways_by_key(rt: HostRuntime) -> Result<(), Fail> {
-    let alloc = rt.alloc();
-    let world = world(alloc)?;
-    let doors = doors(alloc)?;
-    for row in GATEWAYS.trim().lines() {
-        let told = gateway_told(alloc, &world, &doors, &key_of(alloc, row)?)?;
-        assert!(rt; told.as_str() == row, "{told} for {row}");
+fn expect(alloc: Global, told: String, row: &str) -> Result<(), Fail> {
+    if told.as_str() != row {
+        return Err(Fail::new(format!(in alloc; "{told} for {row}")?));
     }
     Ok(())
 }
 
+fn expect_gateway(alloc: Global, world: &World, doors: &Doors, row: &str) -> Result<(), Fail> {
+    let key = key_of(alloc, row)?;
+    let told = gateway_told(alloc, world, doors, &key)?;
+    expect(alloc, told, row)
+}
+
+#[test]
+fn gateways_by_key(rt: HostRuntime) -> Result<(), Fail> {
+    let world = world(rt.alloc())?;
+    let doors = doors(rt.alloc())?;
+    for row in GATEWAYS.trim().lines() {
+        expect_gateway(rt.alloc(), &world, &doors, row)?;
+    }
+    Ok(())
+}
+
+fn expect_route(alloc: Global, world: &World, doors: &Doors, row: &str) -> Result<(), Fail> {
+    let key = key_of(alloc, row)?;
+    let told = route_told(alloc, world, doors, &key)?;
+    expect(alloc, told, row)
+}
+
 #[test]
 fn routes_by_key(rt: HostRuntime) -> Result<(), Fail> {
-    let alloc = rt.alloc();
-    let world = world(alloc)?;
-    let doors = doors(alloc)?;
+    let world = world(rt.alloc())?;
+    let doors = doors(rt.alloc())?;
     for row in ROUTES.trim().lines() {
-        let told = route_told(alloc, &world, &doors, &key_of(alloc, row)?)?;
-        assert!(rt; told.as_str() == row, "{told} for {row}");
+        expect_route(rt.alloc(), &world, &doors, row)?;
     }
     Ok(())
 }

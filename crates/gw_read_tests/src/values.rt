@@ -163,19 +163,23 @@ fn told_slice(alloc: Global, slice: &EndpointSlice) -> Result<String, NoMemory> 
     Ok(told)
 }
 
+fn told_at(alloc: Global, kind: &str, meta: Meta, at: &Cursor<'_>) -> Result<String, Fail> {
+    let told = match kind {
+        "GatewayClass" => told_class(alloc, &read_class(alloc, meta, at)?),
+        "Gateway" => told_gateway(alloc, &read_gateway(alloc, meta, at)?),
+        "ReferenceGrant" => told_grant(alloc, &read_grant(alloc, meta, at)?),
+        "Namespace" => told_namespace(alloc, &read_namespace(alloc, meta, at)?),
+        "Service" => told_service(alloc, &read_service(alloc, meta, at)?),
+        _ => told_slice(alloc, &read_slice(alloc, meta, at)?),
+    };
+    Ok(told?)
+}
+
 fn told(alloc: Global, kind: &str, text: &str) -> Result<String, Fail> {
     let value = read_value(alloc, text.as_bytes())?;
     let at = Cursor::root(alloc, &value)?;
     let meta = read_meta(alloc, kind, &at)?;
-    let told = match kind {
-        "GatewayClass" => told_class(alloc, &read_class(alloc, meta, &at)?),
-        "Gateway" => told_gateway(alloc, &read_gateway(alloc, meta, &at)?),
-        "ReferenceGrant" => told_grant(alloc, &read_grant(alloc, meta, &at)?),
-        "Namespace" => told_namespace(alloc, &read_namespace(alloc, meta, &at)?),
-        "Service" => told_service(alloc, &read_service(alloc, meta, &at)?),
-        _ => told_slice(alloc, &read_slice(alloc, meta, &at)?),
-    };
-    Ok(told?)
+    told_at(alloc, kind, meta, &at)
 }
 
 const GATEWAY: &str =
@@ -268,20 +272,41 @@ const SELECTED: &[(&str, &str, bool)] = &[
     ("other", "c", false),
 ];
 
+fn gateway_of(alloc: Global, text: &str) -> Result<Gateway, Fail> {
+    let value = read_value(alloc, text.as_bytes())?;
+    let at = Cursor::root(alloc, &value)?;
+    let meta = read_meta(alloc, "Gateway", &at)?;
+    Ok(read_gateway(alloc, meta, &at)?)
+}
+
+fn first_selector(gateway: &Gateway) -> Option<&Selector> {
+    let first = gateway.listeners.as_slice().first()?;
+    first.allowed_routes.selector.as_ref()
+}
+
+fn expect_selected(alloc: Global, selector: &Selector) -> Result<(), Fail> {
+    for (team, tier, accepted) in SELECTED {
+        if takes(alloc, selector, team, tier)? != *accepted {
+            return Err(Fail::new(format!(in alloc; "{team} {tier}")?));
+        }
+    }
+    Ok(())
+}
+
 #[test]
 fn a_selector(rt: HostRuntime) -> Result<(), Fail> {
-    let alloc = rt.alloc();
-    let value = read_value(alloc, GATEWAY.as_bytes())?;
-    let at = Cursor::root(alloc, &value)?;
-    let gateway = read_gateway(alloc, read_meta(alloc, "Gateway", &at)?, &at)?;
-    let first = gateway.listeners.as_slice().first().ok_or("a listener")?;
-    let selector = first.allowed_routes.selector.as_ref().ok_or("a selector")?;
-    for (team, tier, accepted) in SELECTED {
-        let found = takes(alloc, selector, team, tier)?;
-        assert!(rt; found == *accepted, "{team} {tier}");
-    }
-    assert!(rt; !accepts(selector, &Labels::new(alloc)));
+    let gateway = gateway_of(rt.alloc(), GATEWAY)?;
+    let selector = first_selector(&gateway).ok_or("a selector")?;
+    expect_selected(rt.alloc(), selector)?;
+    assert!(rt; !accepts(selector, &Labels::new(rt.alloc())));
     Ok(())
+}
+
+fn slice_of(alloc: Global, text: &str) -> Result<EndpointSlice, Fail> {
+    let value = read_value(alloc, text.as_bytes())?;
+    let at = Cursor::root(alloc, &value)?;
+    let meta = read_meta(alloc, "EndpointSlice", &at)?;
+    Ok(read_slice(alloc, meta, &at)?)
 }
 
 // The endpoints of the slice, and whether they are ready: they are unless it is said otherwise.
@@ -295,10 +320,7 @@ const ENDPOINTS: &[(&str, bool)] = &[
 
 #[test]
 fn endpoints_are_ready_unless_said_otherwise(rt: HostRuntime) -> Result<(), Fail> {
-    let alloc = rt.alloc();
-    let value = read_value(alloc, SLICE.as_bytes())?;
-    let at = Cursor::root(alloc, &value)?;
-    let slice = read_slice(alloc, read_meta(alloc, "EndpointSlice", &at)?, &at)?;
+    let slice = slice_of(rt.alloc(), SLICE)?;
     for (endpoint, (address, ready)) in slice.endpoints.iter().zip(ENDPOINTS) {
         let is_read = endpoint.address == parse_ipv4(address.as_bytes());
         assert!(rt; is_read && endpoint.ready == *ready, "{address}");
@@ -308,12 +330,9 @@ fn endpoints_are_ready_unless_said_otherwise(rt: HostRuntime) -> Result<(), Fail
 
 #[test]
 fn addresses_of_other_types_are_not_read(rt: HostRuntime) -> Result<(), Fail> {
-    let alloc = rt.alloc();
     let text =
         r#"{"metadata":{"name":"s"},"addressType":"IPv6","endpoints":[{"addresses":["10.0.0.1"]}]}"#;
-    let value = read_value(alloc, text.as_bytes())?;
-    let at = Cursor::root(alloc, &value)?;
-    let slice = read_slice(alloc, read_meta(alloc, "EndpointSlice", &at)?, &at)?;
+    let slice = slice_of(rt.alloc(), text)?;
     let endpoint = slice.endpoints.as_slice().first().ok_or("an endpoint")?;
     assert!(rt; endpoint.address.is_none());
     Ok(())

@@ -3,7 +3,7 @@ use gw_status::{
     ClassStatus, CondKind, Condition, GatewayState, GatewayStatus, ListenerState, ListenerStatus,
     ParentStatus, Reason, RouteStatus, Statuses, write_statuses,
 };
-use gw_text::{Key, List, Name, NamespaceName, Socket, Text, TextFault};
+use gw_text::{Key, List, Name, NamespaceName, NoMemory, Socket, Text, TextFault};
 use std::alloc::Global;
 use std::test::Fail;
 
@@ -58,13 +58,37 @@ const SERVED: &[u8] =
 {"kind":"Gateway","name":"g","namespace":"default","status":{"addresses":[{"type":"IPAddress","value":"127.0.0.1"}],"conditions":[{"reason":"Accepted","status":"True","type":"Accepted"},{"reason":"Programmed","status":"True","type":"Programmed"}],"listeners":[{"attachedRoutes":3,"conditions":[{"reason":"Accepted","status":"True","type":"Accepted"},{"reason":"NoConflicts","status":"False","type":"Conflicted"},{"reason":"Programmed","status":"True","type":"Programmed"},{"reason":"ResolvedRefs","status":"True","type":"ResolvedRefs"}],"name":"http","supportedKinds":[{"group":"gateway.networking.k8s.io","kind":"HTTPRoute"}]}]}}
 "#;
 
-#[test]
-fn a_gateway_that_serves(rt: HostRuntime) -> Result<(), Fail> {
-    let alloc = rt.alloc();
-    let accepted = Condition::true_by(CondKind::Accepted, Reason::Accepted);
-    let mut statuses = class_alone(alloc, "c", accepted)?;
+// The statuses of a class, and of one Gateway.
+fn with_gateway(
+    alloc: Global,
+    class: Condition,
+    key: &str,
+    state: GatewayState,
+    listeners: List<ListenerStatus>,
+) -> Result<Statuses, TextFault> {
+    let mut statuses = class_alone(alloc, "c", class)?;
+    let key = Key::parse(alloc, key)?;
+    statuses.gateways.push(GatewayStatus {
+        key,
+        state,
+        listeners,
+    })?;
+    Ok(statuses)
+}
+
+fn is_written(alloc: Global, statuses: &Statuses, text: &[u8]) -> Result<bool, NoMemory> {
+    Ok(write_statuses(alloc, statuses)?.bytes() == text)
+}
+
+fn one_listener(alloc: Global) -> Result<List<ListenerStatus>, TextFault> {
     let mut listeners = List::new(alloc);
     listeners.push(served(alloc, "http", 3)?)?;
+    Ok(listeners)
+}
+
+#[test]
+fn a_gateway_that_serves(rt: HostRuntime) -> Result<(), Fail> {
+    let accepted = Condition::true_by(CondKind::Accepted, Reason::Accepted);
     let state = GatewayState {
         accepted,
         programmed: Condition::true_by(CondKind::Programmed, Reason::Programmed),
@@ -76,13 +100,9 @@ fn a_gateway_that_serves(rt: HostRuntime) -> Result<(), Fail> {
             port: 18080,
         }),
     };
-    let key = Key::parse(alloc, "default/g")?;
-    statuses.gateways.push(GatewayStatus {
-        key,
-        state,
-        listeners,
-    })?;
-    assert!(rt; write_statuses(alloc, &statuses)?.bytes() == SERVED);
+    let listeners = one_listener(rt.alloc())?;
+    let statuses = with_gateway(rt.alloc(), accepted, "default/g", state, listeners)?;
+    assert!(rt; is_written(rt.alloc(), &statuses, SERVED)?);
     Ok(())
 }
 
@@ -91,26 +111,24 @@ const UNSERVED: &[u8] =
 {"kind":"Gateway","name":"g","namespace":"n","status":{"addresses":[],"conditions":[{"reason":"ListenersNotValid","status":"True","type":"Accepted"},{"reason":"AddressNotAssigned","status":"False","type":"Programmed"}],"listeners":[{"attachedRoutes":0,"conditions":[{"reason":"Accepted","status":"True","type":"Accepted"},{"reason":"NoConflicts","status":"False","type":"Conflicted"},{"reason":"Programmed","status":"True","type":"Programmed"},{"reason":"ResolvedRefs","status":"True","type":"ResolvedRefs"}],"name":"a","supportedKinds":[{"group":"gateway.networking.k8s.io","kind":"HTTPRoute"}]},{"attachedRoutes":16384,"conditions":[{"reason":"UnsupportedProtocol","status":"False","type":"Accepted"},{"reason":"NoConflicts","status":"False","type":"Conflicted"},{"reason":"Invalid","status":"False","type":"Programmed"},{"reason":"InvalidRouteKinds","status":"False","type":"ResolvedRefs"}],"name":"b","supportedKinds":[]}]}}
 "#;
 
-#[test]
-fn a_gateway_that_is_not_programmed(rt: HostRuntime) -> Result<(), Fail> {
-    let alloc = rt.alloc();
-    let refused = Condition::false_by(CondKind::Accepted, Reason::InvalidParameters);
-    let mut statuses = class_alone(alloc, "c", refused)?;
+fn two_listeners(alloc: Global) -> Result<List<ListenerStatus>, TextFault> {
     let mut listeners = List::new(alloc);
     listeners.push(served(alloc, "a", 0)?)?;
     listeners.push(unserved(alloc, "b", 16_384)?)?;
+    Ok(listeners)
+}
+
+#[test]
+fn a_gateway_that_is_not_programmed(rt: HostRuntime) -> Result<(), Fail> {
+    let refused = Condition::false_by(CondKind::Accepted, Reason::InvalidParameters);
     let state = GatewayState {
         accepted: Condition::true_by(CondKind::Accepted, Reason::ListenersNotValid),
         programmed: Condition::false_by(CondKind::Programmed, Reason::AddressNotAssigned),
         address: None,
     };
-    let key = Key::parse(alloc, "n/g")?;
-    statuses.gateways.push(GatewayStatus {
-        key,
-        state,
-        listeners,
-    })?;
-    assert!(rt; write_statuses(alloc, &statuses)?.bytes() == UNSERVED);
+    let listeners = two_listeners(rt.alloc())?;
+    let statuses = with_gateway(rt.alloc(), refused, "n/g", state, listeners)?;
+    assert!(rt; is_written(rt.alloc(), &statuses, UNSERVED)?);
     Ok(())
 }
 
@@ -139,27 +157,44 @@ fn entry(
     })
 }
 
+fn first_entry(alloc: Global) -> Result<ParentStatus, TextFault> {
+    let accepted = Condition::true_by(CondKind::Accepted, Reason::Accepted);
+    let resolved = Condition::true_by(CondKind::ResolvedRefs, Reason::ResolvedRefs);
+    entry(alloc, "m", None, None, accepted, resolved)
+}
+
+fn second_entry(alloc: Global) -> Result<ParentStatus, TextFault> {
+    let refused = Condition::false_by(CondKind::Accepted, Reason::NotAllowedByListeners);
+    let unresolved = Condition::false_by(CondKind::ResolvedRefs, Reason::BackendNotFound);
+    let section = Some(Name::parse(alloc, "http")?);
+    entry(alloc, "n", section, Some(8080), refused, unresolved)
+}
+
+fn two_entries(alloc: Global) -> Result<List<ParentStatus>, TextFault> {
+    let mut parents = List::new(alloc);
+    parents.push(first_entry(alloc)?)?;
+    parents.push(second_entry(alloc)?)?;
+    Ok(parents)
+}
+
+fn route(alloc: Global, key: &str, parents: List<ParentStatus>) -> Result<RouteStatus, TextFault> {
+    let key = Key::parse(alloc, key)?;
+    Ok(RouteStatus { key, parents })
+}
+
+fn two_routes(alloc: Global) -> Result<List<RouteStatus>, TextFault> {
+    let mut routes = List::new(alloc);
+    routes.push(route(alloc, "n/r", two_entries(alloc)?)?)?;
+    routes.push(route(alloc, "n/s", List::new(alloc))?)?;
+    Ok(routes)
+}
+
 #[test]
 fn a_route_with_two_entries(rt: HostRuntime) -> Result<(), Fail> {
-    let alloc = rt.alloc();
     let accepted = Condition::true_by(CondKind::Accepted, Reason::Accepted);
-    let refused = Condition::false_by(CondKind::Accepted, Reason::NotAllowedByListeners);
-    let resolved = Condition::true_by(CondKind::ResolvedRefs, Reason::ResolvedRefs);
-    let unresolved = Condition::false_by(CondKind::ResolvedRefs, Reason::BackendNotFound);
-    let mut statuses = class_alone(alloc, "c", accepted)?;
-    let mut parents = List::new(alloc);
-    parents.push(entry(alloc, "m", None, None, accepted, resolved)?)?;
-    let section = Some(Name::parse(alloc, "http")?);
-    parents.push(entry(alloc, "n", section, Some(8080), refused, unresolved)?)?;
-    statuses.routes.push(RouteStatus {
-        key: Key::parse(alloc, "n/r")?,
-        parents,
-    })?;
-    statuses.routes.push(RouteStatus {
-        key: Key::parse(alloc, "n/s")?,
-        parents: List::new(alloc),
-    })?;
-    assert!(rt; write_statuses(alloc, &statuses)?.bytes() == ROUTES);
+    let mut statuses = class_alone(rt.alloc(), "c", accepted)?;
+    statuses.routes = two_routes(rt.alloc())?;
+    assert!(rt; is_written(rt.alloc(), &statuses, ROUTES)?);
     Ok(())
 }
 

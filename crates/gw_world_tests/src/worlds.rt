@@ -253,29 +253,39 @@ fn goes(alloc: Global, world: &mut World, kinds: &str, row: &str) -> Result<bool
     Ok(told.as_str() == held && is_found(alloc, world, kind, &step)?)
 }
 
+// The steps do to the objects of the kind what their rows say.
+fn expect_steps(alloc: Global, world: &mut World, kind: &str, rows: &str) -> Result<(), Fail> {
+    for row in rows.trim().lines() {
+        if !goes(alloc, world, kind, row)? {
+            return Err(Fail::new(format!(in alloc; "{kind}: {row}")?));
+        }
+    }
+    Ok(())
+}
+
+fn expect_held(alloc: Global, world: &World, namespace: &str, held: &str) -> Result<(), Fail> {
+    let namespace = Text::of(alloc, namespace)?;
+    let grants = told(alloc, world.grants_in(&namespace))?;
+    let slices = told(alloc, world.slices_in(&namespace))?;
+    if grants.as_str() != held || slices.as_str() != held {
+        return Err(Fail::new(format!(in alloc; "{grants} {slices}")?));
+    }
+    Ok(())
+}
+
 #[test]
 fn objects_of_each_kind(rt: HostRuntime) -> Result<(), Fail> {
     let alloc = rt.alloc();
     let mut world = World::new(alloc);
     for kind in IN_NAMESPACES.trim().lines() {
-        for row in STEPS.trim().lines() {
-            assert!(rt; goes(alloc, &mut world, kind, row)?, "{kind}: {row}");
-        }
+        expect_steps(alloc, &mut world, kind, STEPS)?;
     }
     for kind in OTHERS.trim().lines() {
-        for row in PLAIN_STEPS.trim().lines() {
-            assert!(rt; goes(alloc, &mut world, kind, row)?, "{kind}: {row}");
-        }
+        expect_steps(alloc, &mut world, kind, PLAIN_STEPS)?;
     }
     assert!(rt; world.changes() == 69);
     for (namespace, held) in NAMESPACES {
-        let namespace = Text::of(alloc, namespace)?;
-        let grants = told(alloc, world.grants_in(&namespace))?;
-        let slices = told(alloc, world.slices_in(&namespace))?;
-        assert!(rt;
-            grants.as_str() == *held && slices.as_str() == *held,
-            "{grants} {slices}"
-        );
+        expect_held(alloc, &world, namespace, held)?;
     }
     Ok(())
 }
@@ -322,19 +332,40 @@ fn full_world(alloc: Global) -> Result<World, TextFault> {
     Ok(world)
 }
 
-// A Route more is refused, one that is held is replaced, and one has room where another went; others have room.
+// On a full world: whether the Route of a number is put or removed, and the number of the refusal, or 0. A Route more is
+// refused, one that is held is replaced, and one has room where another went.
+const WHERE_FULL: &[(bool, usize, u8)] = &[
+    (true, 26_384, 7),
+    (true, 20_000, 0),
+    (false, 26_384, 0),
+    (true, 26_384, 7),
+    (false, 10_000, 0),
+    (true, 26_384, 0),
+    (true, 10_000, 7),
+];
+
+fn take_row(alloc: Global, world: &mut World, row: &(bool, usize, u8)) -> Result<(), Fail> {
+    let (puts, number, wanted) = *row;
+    let event = match puts {
+        true => put_route(alloc, number)?,
+        false => remove_route(alloc, number)?,
+    };
+    let given = answer(world, event);
+    if given != wanted {
+        return Err(Fail::new(format!(in alloc; "{number}: {given}")?));
+    }
+    Ok(())
+}
+
+// Other objects have room.
 #[test]
 fn at_most_16384_routes(rt: HostRuntime) -> Result<(), Fail> {
     let alloc = rt.alloc();
     let mut world = full_world(alloc)?;
     assert!(rt; world.routes().len() == 16_384);
-    assert!(rt; answer(&mut world, put_route(alloc, 26_384)?) == 7);
-    assert!(rt; answer(&mut world, put_route(alloc, 20_000)?) == 0);
-    assert!(rt; answer(&mut world, remove_route(alloc, 26_384)?) == 0);
-    assert!(rt; answer(&mut world, put_route(alloc, 26_384)?) == 7);
-    assert!(rt; answer(&mut world, remove_route(alloc, 10_000)?) == 0);
-    assert!(rt; answer(&mut world, put_route(alloc, 26_384)?) == 0);
-    assert!(rt; answer(&mut world, put_route(alloc, 10_000)?) == 7);
+    for row in WHERE_FULL {
+        take_row(alloc, &mut world, row)?;
+    }
     take(alloc, &mut world, SERVICE, Second(0))?;
     assert!(rt; world.routes().len() == 16_384);
     Ok(())
