@@ -1,9 +1,10 @@
 ghost use Rattle.std.specs.Prelude.{◌≡◌, ◌<◌, ◌^◌, [], false, length, IfOk, IfErr, OnOk, OnErr};
+ghost use Rattle.std.specs.Arc.{arc_value};
 ghost use Rattle.gw_json.specs.Words.{Fails};
 ghost use Rattle.gw_snap.specs.Lists.{copies};
 ghost use Rattle.gw_store.specs.Events.{answer, read_of};
 ghost use Rattle.gw_store.specs.SeenEvents.{seen_event};
-ghost use Rattle.gw_text.specs.model.World.{is_full};
+ghost use Rattle.gw_text.specs.model.World.{is_full, nothing};
 ghost use Rattle.gw_hub.specs.Control.{Comes, Follows, beginning, with_change};
 ghost use Rattle.gw_hub.specs.Twice.{IsTwice};
 
@@ -75,11 +76,10 @@ impl Controller {
         ensures passes { IfOk result (λ opened. opened.1 ≡ copies places (record { seen = []; fixed = (doors, controller) })) }
         ensures place { result ≡ Err OpenFault.Place → ⊥ }
     {
-        let world = World::new(alloc);
         let doors = Arc::new(alloc, doors)?;
         let controller = Arc::new(alloc, controller)?;
-        let first = tables_after(alloc, &doors, &controller, &world)?;
-        let (publisher, passes) = snapshots(alloc, first, places)?;
+        let world = World::new(alloc);
+        let (publisher, passes) = unpublished(alloc, &doors, &controller, &world, places)?;
         let controller = Controller {
             alloc,
             doors,
@@ -162,6 +162,25 @@ impl Controller {
     {
         self.doors.doors().len()
     }
+}
+
+// The publisher of the tables of no objects, and as many passes as places.
+fn unpublished(
+    alloc: Global,
+    doors: &Arc<Doors>,
+    controller: &Arc<Text>,
+    world: &World,
+    places: usize,
+) -> Result<(Publisher<Tables>, Passes<Tables>), OpenFault>
+    requires none { world.now.world ≡ nothing }
+    requires some { 0 < places }
+    requires few { places < 2 ^ 32 }
+    ensures publisher { IfOk result (λ opened. opened.0 ≡ record { pending = []; published = []; fixed = (arc_value doors.now, arc_value controller.now) }) }
+    ensures passes { IfOk result (λ opened. opened.1 ≡ copies places (record { seen = []; fixed = (arc_value doors.now, arc_value controller.now) })) }
+    ensures place { result ≡ Err OpenFault.Place → ⊥ }
+{
+    let first = tables_after(alloc, doors, controller, world)?;
+    snapshots(alloc, first, places)
 }
 
 // The change that a line is, twice, since what is held and the list of changes each keep it; none where it is skipped.

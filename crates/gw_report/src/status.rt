@@ -1,7 +1,8 @@
-ghost use Rattle.std.specs.Prelude.{◌≡◌, ◌<◌, ◌≤◌, ◌++◌, length, IfOk, string_bytes};
+ghost use Rattle.std.specs.Prelude.{◌≡◌, ◌<◌, ◌≤◌, ◌++◌, length, IfOk, OnOk, string_bytes};
 ghost use Rattle.gw_text.specs.model.Statuses.{statuses_of};
 ghost use Rattle.gw_json.specs.Lines.{line_of};
 ghost use Rattle.gw_link.specs.declared.source.TheConstants.{MOST_INPUT};
+ghost use Rattle.gw_status.specs.StatusText.{statuses_text};
 ghost use Rattle.gw_report.specs.Outputs.{IsOutputBy};
 ghost use Rattle.gw_report.specs.RunText as texts;
 
@@ -64,19 +65,33 @@ fn status_text(
     ensures { IfOk result (λ text. text ≡ string_bytes report.text
         ++ texts.status_text doors.now controller.now report.world.world report.world.world.changes report.refused report.skipped) }
 {
-    let statuses = statuses::<Brand>(alloc, doors, controller, &report.world, Blank::new(1))?;
     let summary = summary_line(alloc, &report)?;
     let Report {
         world,
         mut text,
         ..
     } = report;
-    push_statuses(alloc, &statuses, &mut text)?;
+    push_world(alloc, doors, controller, &world, &mut text)?;
     text.push_str(summary.as_str())?;
     // The program ends behind this text; to give back each object by itself would take as long as to write it.
     mem::forget(world);
-    mem::forget(statuses);
     Ok(Text::from_vec(text.into_bytes()))
+}
+
+// The statuses of a world, which aren't given back either.
+fn push_world(
+    alloc: Global,
+    doors: &Doors,
+    controller: &Text,
+    world: &World,
+    text: &mut String,
+) -> Result<(), NoMemory>
+    ensures { OnOk result (string_bytes text.new ≡ string_bytes text.old ++ statuses_text (statuses_of doors.now controller.now world.now.world)) }
+{
+    let statuses = statuses::<Brand>(alloc, doors, controller, world, Blank::new(1))?;
+    push_statuses(alloc, &statuses, text)?;
+    mem::forget(statuses);
+    Ok(())
 }
 
 fn summary_line(alloc: Global, report: &Report) -> Result<String, NoMemory>
