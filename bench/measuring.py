@@ -19,8 +19,9 @@ def stands_on():
     return crates
 
 
-def run_program(source, below):
-    """The lines that a program prints, whose main.rt is this text and which stands on these crates."""
+def run_program(source, below, proofs=None):
+    """The lines that a program prints, whose main.rt is this text and which stands on these crates; `proofs` has the texts of its further
+    files by their paths."""
     crates = stands_on()
     wanted, left = [], list(below)
     while left:
@@ -35,6 +36,10 @@ def run_program(source, below):
         os.makedirs(os.path.join(program, "src"))
         with open(os.path.join(program, "src", "main.rt"), "w") as file:
             file.write(source)
+        for path, text in (proofs or {}).items():
+            os.makedirs(os.path.dirname(os.path.join(program, path)), exist_ok=True)
+            with open(os.path.join(program, path), "w") as file:
+                file.write(text)
         with open(os.path.join(folder, "crates.txt"), "w") as file:
             for name in crates:
                 if name in wanted:
