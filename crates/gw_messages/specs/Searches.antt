@@ -1,5 +1,5 @@
 -- What a search for the end of a section found, and how far it came.
-use Rattle.std.specs.Prelude.{ℕ, ◌+◌, ◌<◌, ◌≤◌, ◌≡◌, List, Bool, true, false, length, take, drop}
+use Rattle.std.specs.Prelude.{ℕ, ◌+◌, ◌<◌, ◌≤◌, ◌≡◌, ◌==◌, List, Bool, true, false, length, take, drop, get_or}
 use Rattle.gw_messages.specs.model.Sections.{whole_section, long_section, part_section, IsCut, NoneBelow, are_empty_lines, ends_head, ends_trailers}
 use Rattle.gw_messages.specs.declared.section.Found.{Found}
 use Rattle.gw_messages.specs.declared.section.Found.TheVariants.{Whole, Long, Part}
@@ -20,12 +20,12 @@ pub record IsSearch (ends : List ℕ → Bool) (s : Search) (bytes : List ℕ) :
   pub few : s.seen ≤ 16384
   pub none : NoneBelow ends (s.seen + 1) bytes
 
--- How many bytes are looked at next: no section ends behind fewer of them that weren't looked at.
+-- How many bytes are looked at next: of those that weren't looked at, none before the last is a line feed.
 pub record IsNextEnd (seen end : ℕ) (bytes : List ℕ) : Type 0 where
   pub more : seen < end
   pub within : end ≤ length bytes
   pub few : end ≤ 16384
-  pub none : (n : ℕ) → seen < n → n < end → ends_trailers (take n bytes) ≡ false
+  pub none : (k : ℕ) → seen ≤ k → k + 1 < end → (get_or bytes k 0 == 10) ≡ false
 
 -- The bytes at the front that aren't looked at again are whole empty lines.
 pub record IsBlank (s : Search) (bytes : List ℕ) : Type 0 where

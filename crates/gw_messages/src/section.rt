@@ -1,5 +1,5 @@
 ghost use Rattle.std.specs.Prelude.{◌≡◌, ℕ, ◌+◌, ◌<◌, ◌≤◌, List, Bool, true, min, length};
-ghost use Rattle.gw_messages.specs.model.Sections.{are_empty_lines, ends_head, ends_trailers, ends_with_empty_line, is_empty_line, NoneBelow};
+ghost use Rattle.gw_messages.specs.model.Sections.{are_empty_lines, ends_head, ends_trailers, ends_with_empty_line, NoneBelow};
 ghost use Rattle.gw_messages.specs.Searches.{IsBlank, IsFound, IsHeadSearch, IsNextEnd, IsTrailersSearch};
 
 use crate::bytes::index_of;
@@ -95,7 +95,7 @@ impl Search {
     }
 }
 
-// How many bytes there are up to the next line's end, or all that a section may have: no section ends between.
+// How many bytes there are up to the next line feed, or all that a section may have: no section ends between.
 fn line_end(bytes: &[u8], seen: usize) -> usize
     requires within { seen < length bytes.now }
     requires few { seen < 16384 }
@@ -126,16 +126,7 @@ fn ends_with_empty_line(bytes: &[u8]) -> bool
 fn ends_trailers(bytes: &[u8]) -> bool
     ensures { result ≡ ends_trailers bytes.now }
 {
-    if is_empty_line(bytes) {
-        return true;
-    }
-    ends_with_empty_line(bytes)
-}
-
-fn is_empty_line(bytes: &[u8]) -> bool
-    ensures { result ≡ is_empty_line bytes.now }
-{
-    bytes == b"\n".as_slice() || bytes == b"\r\n".as_slice()
+    bytes == b"\r\n".as_slice() || bytes.ends_with(b"\r\n\r\n")
 }
 
 /// Whether the bytes are whole empty lines and nothing else.

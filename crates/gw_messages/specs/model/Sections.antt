@@ -1,10 +1,10 @@
 -- Parts of a message that end with an empty line: a head, and the trailer section of a chunked body.
--- Source: RFC 9112 sections 2.1, 2.2 and 7.1.2.
+-- Source: RFC 9112 sections 2.1, 2.2 and 7.1.
 use Rattle.std.specs.Prelude.{ℕ, ◌+◌, ◌<◌, ◌≤◌, ◌≡◌, List, [], ◌∷◌, ◌++◌, length, take, Bool, true, false, not, ◌&&◌, ◌||◌, ◌==◌, nat_eq, bytes_eq}
 use Rattle.std.specs.List.{starts_with, ends_with}
 
--- The bytes end with an empty line, behind the end of a line. A line ends with CR LF, or with LF alone. Source: RFC 9112
--- section 2.2.
+-- The bytes end with an empty line, behind the end of a line. A line of a head ends with CR LF, or with LF alone. Source:
+-- RFC 9112 section 2.2.
 abbrev pub ends_with_empty_line : List ℕ → Bool
 ends_with_empty_line bytes =
     ends_with nat_eq bytes (10 ∷ 10 ∷ []) || ends_with nat_eq bytes (10 ∷ 13 ∷ 10 ∷ [])
@@ -19,13 +19,10 @@ are_empty_lines (b ∷ bytes) = (b == 10 || (b == 13 && starts_with nat_eq bytes
 abbrev pub ends_head : List ℕ → Bool
 ends_head bytes = ends_with_empty_line bytes && not (are_empty_lines bytes)
 
--- The bytes are one empty line.
-abbrev pub is_empty_line : List ℕ → Bool
-is_empty_line bytes = bytes_eq bytes (10 ∷ []) || bytes_eq bytes (13 ∷ 10 ∷ [])
-
--- The bytes end a trailer section: they are an empty line, or end with one behind other lines. Source: RFC 9112 section 7.1.2.
+-- The bytes end a trailer section: they are CR LF, or end with CR LF directly behind CR LF. Its lines end with CR LF alone,
+-- so LF alone and CR alone are bytes of a line. Source: RFC 9112 section 7.1.
 abbrev pub ends_trailers : List ℕ → Bool
-ends_trailers bytes = is_empty_line bytes || ends_with_empty_line bytes
+ends_trailers bytes = bytes_eq bytes (13 ∷ 10 ∷ []) || ends_with nat_eq bytes (13 ∷ 10 ∷ 13 ∷ 10 ∷ [])
 
 -- What stands where a section begins: the whole section and what follows it; more bytes than a section may have, without
 -- its end; or no more than that, without its end.

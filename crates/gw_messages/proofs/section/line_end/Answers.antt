@@ -8,5 +8,5 @@ returns c = record {
   more = omega arith;
   within = omega arith;
   few = omega arith;
-  none = λ n after before. none_between c.args.bytes.now c.args.seen (c.min-stop.result - c.args.seen) n after (omega (arith, c.index_of-at.ensures.place)) (omega arith);
+  none = λ k after before. none_between c.args.bytes.now c.args.seen (c.min-stop.result - c.args.seen) k after (omega (arith, c.index_of-at.ensures.place));
 }

@@ -3,12 +3,12 @@ use Rattle.std.proofs.Common.{◌≡◌, ◌≤◌, length, take, sym, ◌∙◌
 use Rattle.std.proofs.lemmas.List.{length-take-le}
 use Rattle.gw_messages.specs.model.Sections.{ends_head}
 use Rattle.gw_messages.proofs.Sections.{known_before}
-use Rattle.gw_messages.proofs.LineEnds.{found_end, no_head, none_through}
+use Rattle.gw_messages.proofs.LineEnds.{found_end, head_line, none_through}
 use Rattle.gw_messages.proofs.section.Search.find_head.Goals as goal
 
 pub returns-then-ends_head-clause-found : goal.returns-then-ends_head-clause-found
 returns-then-ends_head-clause-found c =
-    found_end ends_head c.args.bytes.now c.lines.self.seen c.line_end-end.result no_head c.lines.invariant.search.search.none c.line_end-end.ensures (sym c.ends_head.ensures.value ∙ c.if-ends_head.true)
+    found_end ends_head c.args.bytes.now c.lines.self.seen c.line_end-end.result head_line c.lines.invariant.search.search.none c.line_end-end.ensures (sym c.ends_head.ensures.value ∙ c.if-ends_head.true)
 
 pub lines-preserved : goal.lines-preserved
 lines-preserved c =
@@ -17,7 +17,7 @@ lines-preserved c =
     let before : c.ends_head.new.self.blank ≤ end = omega (arith, c.ends_head.ensures.kept.within, long) in
     record {
       search = record {
-        search = none_through ends_head c.lines.self _ c.args.bytes.now no_head c.lines.invariant.search.search c.line_end-end.ensures (sym c.ends_head.ensures.value ∙ c.if-ends_head.false);
+        search = none_through ends_head c.lines.self _ c.args.bytes.now head_line c.lines.invariant.search.search c.line_end-end.ensures (sym c.ends_head.ensures.value ∙ c.if-ends_head.false);
         before = before;
         blank = known_before c.ends_head.new.self.blank end c.args.bytes.now before c.ends_head.ensures.kept.blank;
       };
