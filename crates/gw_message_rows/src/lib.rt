@@ -4,7 +4,9 @@
 mod connection;
 mod reply;
 mod rows;
+mod trailers;
 
 pub use connection::{Connection, request, steps};
 pub use reply::{Reply, outcome};
 pub use rows::{column, equal_pieces, is_over, repeated, show, written};
+pub use trailers::TRAILERS;

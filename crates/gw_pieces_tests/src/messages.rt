@@ -58,6 +58,7 @@ const ENDS: &str = r#"
 0^^
 000;e^^
 0^T: t^U: u^^
+0^\n^T: t\n\n\r^^
 "#;
 
 /// Messages that are drawn, one behind the other.

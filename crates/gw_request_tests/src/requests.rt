@@ -4,7 +4,9 @@ ghost use Rattle.std.specs.Prelude.{◌≡◌, false};
 ghost use Rattle.gw_frames.specs.Inlets.{is_over};
 
 use gw_frames::{Ended, Inlet, Step};
-use gw_message_rows::{Connection, column, equal_pieces, is_over, repeated, steps, written};
+use gw_message_rows::{
+    Connection, TRAILERS, column, equal_pieces, is_over, repeated, steps, written,
+};
 use gw_text::NoMemory;
 use std::alloc::Global;
 use std::test::Fail;
@@ -162,9 +164,10 @@ const CHUNKED: &str = r#"
 # RFC 9112 section 7.1: chunks, a last chunk of size 0, a trailer section and an empty line; unrecognized extensions are ignored
 ~0^^|POST / x x [] need
 ~1^a^0^^|POST / x x [a] need
-~1^a^0^\n|POST / x x [a] need
+~1^a^0^\n|need
 ~1^a^0^X: y^^GET / HTTP/1.1^Host: x^^|POST / x x [a] GET / x x [] need
-~1^a^0^X: y\nZ\n\n|POST / x x [a] need
+~1^a^0^X: y\nZ\n\n|need
+~1^a^0^X: y\nZ^^|POST / x x [a] need
 ~3;a=b^abc^00002 \t^de^0;c^^|POST / x x [abcde] need
 ~a^0123456789^0^^|POST / x x [0123456789] need
 ~A^0123456789^0^^$|POST / x x [0123456789] end
@@ -228,6 +231,8 @@ POST / HTTP/1.1^Host: x^Transfer-Encoding: chunked^^1;|a|1022|\r|need
 POST / HTTP/1.1^Host: x^Transfer-Encoding: chunked^^1;|a|1023||400
 POST / HTTP/1.1^Host: x^Transfer-Encoding: chunked^^0^A: |a|16377|^^|POST / x x [] need
 POST / HTTP/1.1^Host: x^Transfer-Encoding: chunked^^0^A: |a|16378|^^|431
+POST / HTTP/1.1^Host: x^Transfer-Encoding: chunked^^0^|\n|16380|^^|POST / x x [] need
+POST / HTTP/1.1^Host: x^Transfer-Encoding: chunked^^0^|\n|16381|^^|431
 "#;
 
 // Bodies of many bytes, which are told by their lengths: as the limits.
@@ -326,6 +331,26 @@ fn refused(rt: HostRuntime) -> Result<(), Fail> {
 #[test]
 fn chunked(rt: HostRuntime) -> Result<(), Fail> {
     meets(rt.alloc(), CHUNKED, CHUNKED_HEAD)
+}
+
+// Fails unless a trailer section gives its steps behind a request, with a request behind it.
+fn gives_trailers(alloc: Global, row: &str) -> Result<(), Fail> {
+    let trailers = column(row, 0);
+    let wanted = column(row, 1);
+    let row = format!(in alloc;
+        "~1^a^0^{trailers}GET / HTTP/1.1^Host: x^^|POST / x x [a] {wanted}"
+    )?;
+    gives(alloc, row.as_str(), CHUNKED_HEAD)
+}
+
+#[test]
+fn trailers(rt: HostRuntime) -> Result<(), Fail> {
+    for row in TRAILERS.trim().lines() {
+        if !row.starts_with("# ") {
+            gives_trailers(rt.alloc(), row)?;
+        }
+    }
+    Ok(())
 }
 
 // Fails unless the bytes of a row of limits give its steps in pieces of each of these sizes.

@@ -1,6 +1,6 @@
 //! Responses out of bytes, by cases: bytes in the written form, and what they give. A `!` in front says that the response is one to
 //! HEAD. A response is told by its code, its phrase, its length and its body.
-use gw_message_rows::{column, equal_pieces, is_over, outcome, repeated, written};
+use gw_message_rows::{TRAILERS, column, equal_pieces, is_over, outcome, repeated, written};
 use std::alloc::Global;
 use std::test::Fail;
 
@@ -62,6 +62,8 @@ HTTP/1.0 200 OK^Transfer-Encoding: chunked^^0^^|200 OK - []
 HTTP/1.1 200 OK^Transfer-Encoding: chunked^^3^ab|need
 HTTP/1.1 200 OK^Transfer-Encoding: chunked^^3^ab$|Cut
 HTTP/1.1 200 OK^Transfer-Encoding: chunked^^0^$|Cut
+HTTP/1.1 200 OK^Transfer-Encoding: chunked^^0^\n$|Cut
+HTTP/1.1 200 OK^Transfer-Encoding: chunked^^0^A: b\n\n$|Cut
 HTTP/1.1 200 OK^Transfer-Encoding: chunked^^x|Body
 HTTP/1.1 200 OK^Transfer-Encoding: chunked^^1^ab|Body
 # RFC 9112 section 6.3: what might indicate response splitting is an error
@@ -177,6 +179,26 @@ fn responses(rt: HostRuntime) -> Result<(), Fail> {
     for row in ROWS.trim().lines() {
         if !row.starts_with("# ") {
             gives(rt.alloc(), row)?;
+        }
+    }
+    Ok(())
+}
+
+// Fails unless a trailer section at the end of a response gives its outcome.
+fn gives_trailers(alloc: Global, row: &str) -> Result<(), Fail> {
+    let trailers = column(row, 0);
+    let wanted = column(row, 2);
+    let row = format!(in alloc;
+        "HTTP/1.1 200 OK^Transfer-Encoding: chunked^^0^{trailers}|{wanted}"
+    )?;
+    gives(alloc, row.as_str())
+}
+
+#[test]
+fn trailers(rt: HostRuntime) -> Result<(), Fail> {
+    for row in TRAILERS.trim().lines() {
+        if !row.starts_with("# ") {
+            gives_trailers(rt.alloc(), row)?;
         }
     }
     Ok(())
