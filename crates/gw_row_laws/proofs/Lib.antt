@@ -1,0 +1,6 @@
+pub mod Deciding
+pub mod Existing
+pub mod Faults
+pub mod Hostnames
+pub mod Ready
+pub mod Tables
