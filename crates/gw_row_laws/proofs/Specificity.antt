@@ -1,5 +1,5 @@
 -- Listeners that differ in hostname differ in how specific they are, where both take requests for one host.
-use Rattle.std.proofs.Common.{◌≡◌, ◌≢◌, ℕ, ◌+◌, ◌-◌, ◌<◌, Bool, true, false, ◌&&◌, List, ◌∷◌, ◌++◌, codes, drop, length, nat_lt, refl, sym, ap, ◌∙◌, arith, suc, Option, Some, None, true≢false}
+use Rattle.std.proofs.Common.{◌≡◌, ℕ, ◌+◌, ◌-◌, ◌<◌, Bool, true, false, List, ◌++◌, codes, drop, length, nat_lt, refl, sym, ap, ◌∙◌, arith, suc, Option, Some, None, true≢false}
 use Rattle.std.proofs.lemmas.Bool.{and_parts}
 use Rattle.std.proofs.lemmas.Map.Lookups.{exact_unsigned}
 use Rattle.std.proofs.lemmas.Slice.Eq.{bytes_eq-Decides}
