@@ -1,32 +1,38 @@
-// Every read and every write failing in turn, a sink that takes a byte at a time, and an input that is too long.
-use super::table::put_line;
-use super::{Ran, run_status, run_word};
+// Every read and every write failing in turn, a sink that takes a byte at a time, and what is left of the input.
+use super::{Ran, run_word};
 use gw_link::{MemSink, MemSource};
-use gw_text::NoMemory;
-use std::alloc::Global;
-use std::test::*;
+use std::alloc::{AllocError, Global};
+use std::test::Fail;
 
-// The bytes of a line that is named, with its line feed.
-fn line_of(alloc: Global, name: &str) -> Result<Vec<u8>, NoMemory> {
-    let mut line = String::new(alloc);
-    put_line(&mut line, name)?;
-    Ok(line.into_bytes())
+// A class, and what `status` prints of it.
+const INPUT: &str =
+    r#"{"type":"ADDED","object":{"apiVersion":"gateway.networking.k8s.io/v1","kind":"GatewayClass","metadata":{"name":"c"},"spec":{"controllerName":"gateward.example/controller"}}}
+"#;
+
+const TEXT: &str =
+    r#"{"kind":"GatewayClass","name":"c","status":{"conditions":[{"reason":"Accepted","status":"True","type":"Accepted"}]}}
+{"changes":1,"refused":0,"skipped":0}
+"#;
+
+fn source_failing(alloc: Global, reads: Vec<u64>) -> Result<MemSource, AllocError> {
+    let input = INPUT.as_bytes().to_vec(alloc)?;
+    Ok(MemSource::new(input, reads).at_most(100))
 }
 
-fn source_failing(alloc: Global, read: u64) -> Result<MemSource, NoMemory> {
-    let fails = [read].to_vec(alloc)?;
-    Ok(MemSource::new(line_of(alloc, "CLASS")?, fails).at_most(100))
-}
-
-fn sink_failing(alloc: Global, write: u64) -> Result<MemSink, NoMemory> {
+fn sink_failing(alloc: Global, write: u64) -> Result<MemSink, AllocError> {
     let fails = [write].to_vec(alloc)?;
     Ok(MemSink::new(alloc, fails).at_most(1))
 }
 
 // A run whose read of this number fails.
-fn read_until(alloc: Global, read: u64) -> Result<Ran, NoMemory> {
-    let sink = MemSink::new(alloc, Vec::new(alloc));
-    run_word(alloc, "status", source_failing(alloc, read)?, sink)
+fn read_until(alloc: Global, read: u64) -> Result<Ran, AllocError> {
+    let source = source_failing(alloc, [read].to_vec(alloc)?)?;
+    run_word(
+        alloc,
+        "status",
+        source,
+        MemSink::new(alloc, Vec::new(alloc)),
+    )
 }
 
 #[test]
@@ -40,25 +46,22 @@ fn each_read_fails_in_turn(rt: HostRuntime) -> Result<(), Fail> {
     }
     let ran = read_until(rt.alloc(), 3)?;
     assert_eq!(rt; ran.exit_code, 0, "there is no further read");
+    assert!(rt;
+        ran.source.left().is_empty(),
+        "the input is read to its end"
+    );
     Ok(())
 }
 
 // A run whose write of this number fails.
-fn written_until(alloc: Global, write: u64) -> Result<Ran, NoMemory> {
-    let source = MemSource::new(line_of(alloc, "CLASS")?, Vec::new(alloc));
+fn written_until(alloc: Global, write: u64) -> Result<Ran, AllocError> {
+    let source = source_failing(alloc, Vec::new(alloc))?;
     run_word(alloc, "status", source, sink_failing(alloc, write)?)
-}
-
-fn class_text(alloc: Global) -> Result<Vec<u8>, NoMemory> {
-    let mut text = String::new(alloc);
-    put_line(&mut text, "CLASS_STATUS")?;
-    put_line(&mut text, r#"SUMMARY 1,"refused":0,"skipped":0"#)?;
-    Ok(text.into_bytes())
 }
 
 #[test]
 fn each_write_fails_in_turn(rt: HostRuntime) -> Result<(), Fail> {
-    let text = class_text(rt.alloc())?;
+    let text = TEXT.as_bytes();
     for n in 0..text.len() {
         let ran = written_until(rt.alloc(), n as u64)?;
         assert_eq!(rt; ran.exit_code, 4, "write {n}");
@@ -67,23 +70,20 @@ fn each_write_fails_in_turn(rt: HostRuntime) -> Result<(), Fail> {
     }
     let ran = written_until(rt.alloc(), text.len() as u64)?;
     assert_eq!(rt; ran.exit_code, 0, "a byte at a time");
-    assert_eq!(rt; ran.sink.written(), text.as_slice());
+    assert_eq!(rt; ran.sink.written(), text);
     Ok(())
 }
 
 #[test]
 fn a_fault_line_that_fails(rt: HostRuntime) -> Result<(), Fail> {
-    let source = source_failing(rt.alloc(), 0)?;
+    let source = source_failing(rt.alloc(), [0].to_vec(rt.alloc())?)?;
     let ran = run_word(rt.alloc(), "nope", source, sink_failing(rt.alloc(), 3)?)?;
     assert_eq!(rt; ran.exit_code, 2);
     assert_eq!(rt; ran.sink.written(), b"{\"f".as_slice());
-    Ok(())
-}
-
-#[test]
-fn an_input_that_is_too_long(rt: HostRuntime) -> Result<(), Fail> {
-    let ran = run_status(rt.alloc(), vec![in rt.alloc(); b' '; 67_108_865]?)?;
-    assert_eq!(rt; ran.exit_code, 7);
-    assert_eq!(rt; ran.sink.written(), b"{\"fault\":\"size\"}\n".as_slice());
+    assert_eq!(rt;
+        ran.source.left(),
+        INPUT.as_bytes(),
+        "words are judged first"
+    );
     Ok(())
 }
