@@ -1,16 +1,16 @@
 -- What is known while a response is received.
-use Rattle.std.proofs.Common.{◌≡◌, ◌∙◌, ℕ, zero, suc, ◌<◌, ◌≤◌, ◌==◌, List, [], ◌∷◌, ◌++◌, length, Bool, true, false, Option, None, Result, Err, refl, subst, arith, length-append}
+use Rattle.std.proofs.Common.{◌≡◌, ◌∙◌, ℕ, zero, suc, ◌<◌, ◌≤◌, ◌==◌, List, [], ◌∷◌, ◌++◌, length, Bool, true, false, Option, Some, None, IfSome, Result, Err, refl, subst, arith, length-append}
 use Rattle.std.proofs.lemmas.Bool.Decides.{nat_tests}
 use Rattle.gw_link.specs.Exchanges.{Exchange, Receives}
 use Rattle.gw_link.specs.Pieces.{Keeps}
 use Rattle.gw_link.proofs.ExchangeLemmas.{Tells-receives}
 use Rattle.gw_replies.specs.declared.fault.BackendFault.TheVariants.{Receive}
-use Rattle.gw_replies.specs.model.Responses.{Response, a_need, ResponseOf}
+use Rattle.gw_replies.specs.model.Responses.{Outcome, Response, a_need, ResponseOf}
 use Rattle.gw_replies.specs.Replies.{StandsFor}
 use Rattle.gw_replies.specs.declared.reader.ReplyReader.{ReplyReader}
 use Rattle.gw_exchange.specs.declared.fault.ExchangeFault.{ExchangeFault}
 use Rattle.gw_exchange.specs.declared.fault.ExchangeFault.TheVariants.{Backend}
-use Rattle.gw_exchange.specs.Exchanged.{exchanged, Comes, Received, TellsGiven}
+use Rattle.gw_exchange.specs.Exchanged.{exchanged, Comes, ComesTo, Received, TellsGiven}
 use Rattle.gw_exchange.proofs.Ending.{Tells-keeps}
 use Rattle.gw_exchange.proofs.Limits.{need_few, need_unended, nothing_yet}
 
@@ -90,6 +90,12 @@ received_failed head reader count first middle now given is keeps = (
     ),
   ),
 )
+
+-- What a reader gave is what the bytes come to, whatever bytes come behind them.
+pub settled : (head : Bool) (reader : ReplyReader) (bytes : List ℕ) (outcome : Option Outcome) → StandsFor head reader bytes outcome
+    → IfSome outcome (ComesTo head bytes reader.over)
+settled head reader bytes None stands = tt
+settled head reader bytes (Some outcome) stands = stands.1
 
 -- A list without items is empty.
 pub empty_of : (xs : List ℕ) → (length xs == 0) ≡ true → xs ≡ []

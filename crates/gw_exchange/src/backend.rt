@@ -1,10 +1,10 @@
-ghost use Rattle.std.specs.Prelude.{◌≡◌, ℕ, ◌+◌, ◌<◌, ◌≤◌, ◌==◌, List, [], ◌++◌, Bool, true, false, Option, None, length, IfOk, OnOk};
+ghost use Rattle.std.specs.Prelude.{◌≡◌, ℕ, ◌+◌, ◌<◌, ◌≤◌, ◌==◌, List, [], ◌++◌, Bool, true, false, Option, Some, None, length, IfOk, IfSome, OnOk, is_some};
 ghost use Rattle.gw_text.specs.model.Addresses.{Socket as Address};
 ghost use Rattle.gw_link.specs.Exchanges.{Exchange, new_exchange, Tells};
 ghost use Rattle.gw_link.specs.Faults.{HasRisen};
 ghost use Rattle.gw_replies.specs.model.Responses.{ResponseOf};
-ghost use Rattle.gw_replies.specs.Replies.{StandsFor, seen};
-ghost use Rattle.gw_exchange.specs.Exchanged.{Ends, Exchanged, IsCallFault, Received};
+ghost use Rattle.gw_replies.specs.Replies.{StandsFor, given, seen};
+ghost use Rattle.gw_exchange.specs.Exchanged.{ComesTo, Ends, Exchanged, IsCallFault, IsRefused, Received};
 
 use crate::fault::ExchangeFault;
 use gw_link::{Upstream, send_whole};
@@ -29,11 +29,12 @@ pub fn exchange<U: Upstream>(
 ) -> Result<Response, ExchangeFault>
     ensures comes { Exchanged to bytes.now head (U.exchanges up.old) (U.exchanges up.new) result }
 
-    // A call is the cause only where it failed.
+    // A call is the cause only where it failed, at this socket.
     ensures cause { IsCallFault result → HasRisen (U.faults up.old) (U.faults up.new) }
+    ensures refused { IsRefused (U.refuses up.old up.new) to result }
     ensures later { U.faults up.old ≤ U.faults up.new }
 
-    ensures closed { U.connected up.new ≡ false }
+    ensures closed { U.at up.new ≡ None }
     ensures goes { U.becomes up.old up.new }
 {
     match up.connect(to) {
@@ -52,10 +53,11 @@ fn converse<U: Upstream>(
     bytes: &[u8],
     head: bool,
 ) -> Result<Response, ExchangeFault>
-    requires { U.connected up.old ≡ true }
+    requires { is_some (U.at up.old) ≡ true }
     ensures ends { (before : Option (List Exchange)) (to : Address) → Tells before (new_exchange to) (U.exchanges up.old)
         → (e : Exchange) × ((e.to ≡ to) × Tells before e (U.exchanges up.new) × Ends bytes.now head e result) }
     ensures cause { IsCallFault result → HasRisen (U.faults up.old) (U.faults up.new) }
+    ensures refused { (to : Address) → U.at up.old ≡ Some to → IsRefused (U.refuses up.old up.new) to result }
     ensures later { U.faults up.old ≤ U.faults up.new }
     ensures goes { U.becomes up.old up.new }
 {
@@ -71,9 +73,10 @@ fn receive_response<U: Upstream>(
     up: &mut U,
     head: bool,
 ) -> Result<Response, ExchangeFault>
-    requires { U.connected up.old ≡ true }
+    requires { is_some (U.at up.old) ≡ true }
     ensures comes { Received head (U.exchanges up.old) (U.exchanges up.new) result }
     ensures cause { IsCallFault result → HasRisen (U.faults up.old) (U.faults up.new) }
+    ensures refused { (to : Address) → U.at up.old ≡ Some to → IsRefused (U.refuses up.old up.new) to result }
     ensures later { U.faults up.old ≤ U.faults up.new }
     ensures goes { U.becomes up.old up.new }
 {
@@ -83,11 +86,12 @@ fn receive_response<U: Upstream>(
 
 // Receives until the reader, to which nothing came yet, has the response.
 fn receive_by<U: Upstream>(up: &mut U, reader: &mut ReplyReader) -> Result<Response, ExchangeFault>
-    requires connected { U.connected up.old ≡ true }
+    requires connected { is_some (U.at up.old) ≡ true }
     requires stands { StandsFor reader.old.to_head reader.old [] None }
     requires unended { reader.old.over ≡ false }
     ensures comes { Received reader.old.to_head (U.exchanges up.old) (U.exchanges up.new) result }
     ensures cause { IsCallFault result → HasRisen (U.faults up.old) (U.faults up.new) }
+    ensures refused { (to : Address) → U.at up.old ≡ Some to → IsRefused (U.refuses up.old up.new) to result }
     ensures later { U.faults up.old ≤ U.faults up.new }
     ensures goes { U.becomes up.old up.new }
 {
@@ -113,6 +117,8 @@ fn step_of(reader: &mut ReplyReader, piece: &[u8]) -> Result<ReplyStep, NoMemory
     requires { reader.old.over ≡ false }
     ensures answers { IfOk result (λ step. (head : Bool) (bytes : List ℕ) → StandsFor head reader.old bytes None
         → ResponseOf head (bytes ++ piece.now) (length piece.now == 0) (seen step)) }
+    ensures settles { IfOk result (λ step. (head : Bool) (bytes : List ℕ) → StandsFor head reader.old bytes None
+        → IfSome (given (seen step)) (ComesTo head (bytes ++ piece.now) (length piece.now == 0))) }
     ensures stands { result ≡ Ok ReplyStep.Need → (head : Bool) (bytes : List ℕ) → StandsFor head reader.old bytes None
         → StandsFor head reader.new (bytes ++ piece.now) None }
     ensures over { OnOk result (reader.new.over ≡ (length piece.now == 0)) }

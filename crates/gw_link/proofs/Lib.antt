@@ -4,3 +4,4 @@ pub mod FaultLemmas
 pub mod LinkLemmas
 pub mod MomentLemmas
 pub mod PieceLemmas
+pub mod ScriptLemmas

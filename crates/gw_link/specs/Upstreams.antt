@@ -1,9 +1,9 @@
 -- What an upstream in memory is, and what each of its calls does.
-use Rattle.std.specs.Prelude.{◌≡◌, ℕ, ◌+◌, ◌||◌, ◌&&◌, Bool, true, false, if◌then◌else◌, min, List, [], ◌∷◌, ◌++◌, length, take, drop, fold, codes, Option, Some, None}
+use Rattle.std.specs.Prelude.{◌≡◌, ℕ, ◌+◌, ◌<◌, ◌⊎◌, ◌||◌, ◌&&◌, Bool, true, false, if◌then◌else◌, min, List, [], ◌∷◌, ◌++◌, length, take, drop, fold, codes, Option, Some, None, is_some}
 use Rattle.std.specs.Fmt.{decimal}
 use Rattle.gw_text.specs.model.Addresses.{Socket, socket_text}
 use Rattle.gw_text.specs.model.Doors.{same_socket}
-use Rattle.gw_link.specs.Faults.{one_more}
+use Rattle.gw_link.specs.Faults.{HasRisen, one_more}
 use Rattle.gw_link.specs.Memory.{Calls, is_failing, after_pass, after_fail}
 use Rattle.gw_link.specs.Exchanges.{Exchange, new_exchange, sending, receiving, change_last}
 use Rattle.gw_link.specs.declared.order.UpstreamCall.{UpstreamCall}
@@ -98,10 +98,16 @@ after_receive size is_done up =
 abbrev pub after_close : UpstreamState → UpstreamState
 after_close up = record up { at = None }
 
--- Calls, one after another, make the second of the first.
+-- Calls, one after another, make the second of the first. A `send` and a `receive` have a connection, and no buffer is empty.
 pub data Becomes : UpstreamState → UpstreamState → Type 0 where
   stays : {a b : UpstreamState} → b ≡ a → Becomes a b
   connects : {a b c : UpstreamState} (to : Socket) (is_done : Bool) → Becomes a b → c ≡ after_connect to is_done b → Becomes a c
-  sends : {a b c : UpstreamState} (piece : List ℕ) (is_done : Bool) → Becomes a b → c ≡ after_send piece is_done b → Becomes a c
-  receives : {a b c : UpstreamState} (size : ℕ) (is_done : Bool) → Becomes a b → c ≡ after_receive size is_done b → Becomes a c
+  sends : {a b c : UpstreamState} (piece : List ℕ) (is_done : Bool) → Becomes a b → is_some b.at ≡ true → c ≡ after_send piece is_done b
+      → Becomes a c
+  receives : {a b c : UpstreamState} (size : ℕ) (is_done : Bool) → Becomes a b → is_some b.at ≡ true → 0 < size
+      → c ≡ after_receive size is_done b → Becomes a c
   closes : {a b c : UpstreamState} → Becomes a b → c ≡ after_close b → Becomes a c
+
+-- Between the two such a call failed at the socket: it is one that fails there; or calls fail by their number; or memory was wanted.
+abbrev pub Refuses : UpstreamState → UpstreamState → UpstreamCall → Socket → Type 0
+Refuses a b call to = (fails_at call to a.orders ≡ true) ⊎ ((0 < length a.calls.fails) ⊎ HasRisen a.starved b.starved)

@@ -1,9 +1,9 @@
-ghost use Rattle.std.specs.Prelude.{◌≡◌, ℕ, ◌+◌, ◌^◌, ◌<◌, ◌≤◌, List, [], ◌∷◌, ◌++◌, true, Some, None, length, take, drop, min, vec_len, IfOk, OnOk, OnErr, IsErr, IsTrue, is_ok, is_some, false, Bool, if◌then◌else◌, option_copied, unwrap_or};
+ghost use Rattle.std.specs.Prelude.{◌≡◌, ℕ, ◌+◌, ◌^◌, ◌<◌, ◌≤◌, List, [], ◌∷◌, ◌++◌, true, Some, None, length, take, drop, min, vec_len, IfOk, IfSome, OnOk, OnErr, IsErr, IsTrue, is_ok, is_some, false, Bool, if◌then◌else◌, option_copied, unwrap_or};
 ghost use Rattle.gw_text.specs.model.Addresses.{Socket as Address};
 ghost use Rattle.gw_link.specs.Exchanges.{change_last, receiving};
 ghost use Rattle.gw_link.specs.Memory.{first_call};
-ghost use Rattle.gw_link.specs.Upstreams.{UpstreamState, same_call, fails_after, fails_at, own_answer, answer_after, answer_at, is_failing_to, next_piece, after_connect, after_send, after_receive, after_close, Becomes};
-ghost use Rattle.gw_link.specs.UpstreamLaws.{becomes_self as becomes_itself, becomes_then as becomes_more};
+ghost use Rattle.gw_link.specs.Upstreams.{UpstreamState, same_call, fails_after, fails_at, own_answer, answer_after, answer_at, is_failing_to, next_piece, after_connect, after_send, after_receive, after_close, Becomes, Refuses};
+ghost use Rattle.gw_link.specs.UpstreamLaws.{becomes_self as becomes_itself, becomes_then as becomes_more, refuses_later as refused_behind, refuses_still as refused_before};
 
 use crate::exchange::{Exchange, receive_in_last, send_in_last};
 use crate::failed::Failed;
@@ -161,15 +161,18 @@ impl MemUpstream {
 impl Upstream for MemUpstream {
     ghost exchanges = { λ u. Some u.exchanges };
 
-    ghost connected = { λ u. is_some u.at };
+    ghost at = { λ u. u.at };
 
     ghost faults = { λ u. u.calls.faults };
 
     ghost becomes = { Becomes };
 
+    ghost refuses = { Refuses };
+
     fn connect(&mut self, to: Socket) -> Result<(), Failed>
         ensures listed { IsTrue (is_failing_to UpstreamCall.Connect (Some to) self.old) → IsErr result }
         ensures after { self.new ≡ after_connect to (is_ok result) self.old }
+        ensures refused { OnErr result (Refuses self.old self.new UpstreamCall.Connect to) }
         ensures goes { Becomes self.old self.new }
     {
         self.at = None;
@@ -205,6 +208,7 @@ impl Upstream for MemUpstream {
         ensures size { IfOk result (λ n. n ≡ min (length piece.now) self.old.most) }
         ensures some { IfOk result (λ n. 0 < n) }
         ensures after { self.new ≡ after_send piece.now (is_ok result) self.old }
+        ensures refused { OnErr result (IfSome self.old.at (λ to. Refuses self.old self.new UpstreamCall.Send to)) }
         ensures goes { Becomes self.old self.new }
     {
         if self.is_failing(UpstreamCall::Send, self.at) {
@@ -234,6 +238,7 @@ impl Upstream for MemUpstream {
         ensures bytes { IfOk result (λ n. take n buf.new ≡ next_piece (length buf.old) self.old) }
         ensures rest { IfOk result (λ n. drop n buf.new ≡ drop n buf.old) }
         ensures after { self.new ≡ after_receive (length buf.old) (is_ok result) self.old }
+        ensures refused { OnErr result (IfSome self.old.at (λ to. Refuses self.old self.new UpstreamCall.Receive to)) }
         ensures goes { Becomes self.old self.new }
     {
         if self.is_failing(UpstreamCall::Receive, self.at) {
@@ -263,6 +268,10 @@ impl Upstream for MemUpstream {
     ghost becomes_self = { becomes_itself };
 
     ghost becomes_then = { becomes_more };
+
+    ghost refuses_later = { refused_behind };
+
+    ghost refuses_still = { refused_before };
 }
 
 fn same_call(a: UpstreamCall, b: UpstreamCall) -> bool

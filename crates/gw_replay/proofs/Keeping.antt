@@ -7,6 +7,8 @@ use Rattle.std.proofs.lemmas.List.{length-map, length-set, map-append}
 use Rattle.std.proofs.lemmas.Bool.Decides.{nat_tests}
 use Rattle.gw_hub.specs.Control.{Control, Follows, with_change}
 use Rattle.gw_hub.proofs.Following.{world_more}
+use Rattle.gw_link.specs.Upstreams.{UpstreamState}
+use Rattle.gw_link.specs.declared.order.Order.{Order}
 use Rattle.gw_match.specs.model.Telling.{world_after}
 use Rattle.gw_text.specs.model.World.{World}
 use Rattle.gw_worker.proofs.Deciding.{begins_itself}
@@ -17,8 +19,8 @@ use Rattle.gw_text.specs.model.Doors.{Door}
 use Rattle.gw_worker.specs.declared.worker.Worker.{Worker}
 use Rattle.gw_json.specs.Lines.{line_of}
 use Rattle.gw_replay.specs.Lines.{totals_data}
-use Rattle.gw_replay.specs.Replays.{Client as Plain, Site, State, totals_text, with_seen}
-use Rattle.gw_replay.specs.States.{HaveSeen, Keeps, Matches, control_after, site_of, worker_over}
+use Rattle.gw_replay.specs.Replays.{Client as Plain, Site, State, totals_text, with_order, with_seen}
+use Rattle.gw_replay.specs.States.{AreBackends, HaveSeen, Keeps, Matches, control_after, site_of, worker_over}
 use Rattle.gw_replay.specs.declared.replay.Client.{Client}
 use Rattle.gw_replay.specs.declared.replay.Replay.{Replay}
 
@@ -134,20 +136,40 @@ learned_more f ws n d w within is =
 -- a connection was served
 pub keeps_served : (old new : Replay) (s : State) (n : ℕ) (w : Worker) (more : List ℕ) → Keeps old s
     → new ≡ record old { workers = new.workers; backends = new.backends; statuses = new.statuses; text = new.text }
-    → new.workers.items ≡ set s.workers n w → w.pass ≡ record { seen = s.published; fixed = (old.controller.doors, old.controller.controller) } → new.statuses.items ≡ s.statuses ++ more
-    → Keeps new (record s { workers = set s.workers n w; backends = new.backends; statuses = s.statuses ++ more })
-keeps_served old new s n w more k is workers pass statuses =
-    subst (λ (r : Replay). Keeps r (record s { workers = set s.workers n w; backends = new.backends; statuses = s.statuses ++ more })) (sym is) (record {
+    → AreBackends new.backends s.orders → new.workers.items ≡ set s.workers n w → w.pass ≡ record { seen = s.published; fixed = (old.controller.doors, old.controller.controller) } → new.statuses.items ≡ s.statuses ++ more
+    → Keeps new (record s { workers = set s.workers n w; statuses = s.statuses ++ more })
+keeps_served old new s n w more k is backends workers pass statuses =
+    subst (λ (r : Replay). Keeps r (record s { workers = set s.workers n w; statuses = s.statuses ++ more })) (sym is) (record {
       controller = k.controller;
       begins = k.begins;
       workers = workers;
       seen = seen_set (record { seen = s.published; fixed = (old.controller.doors, old.controller.controller) }) s.workers n w k.seen pass;
       clients = λ name. subst (λ (size : ℕ). Matches (site_of old) size (get_by_text old.clients name) (s.clients name)) (sym (length-set s.workers n w)) (k.clients name);
-      backends = refl;
+      backends = backends;
       statuses = statuses;
       refused = k.refused;
       skipped = k.skipped;
     })
+
+-- one thing more was said of backends
+pub keeps_ordered : (old new : Replay) (s : State) (order : Order) → Keeps old s → new ≡ record old { backends = new.backends }
+    → new.backends ≡ record old.backends { orders = old.backends.orders ++ order ∷ [] } → Keeps new (with_order s order)
+keeps_ordered old new s order k is said = subst (λ (r : Replay). Keeps r (with_order s order)) (sym is) (record {
+  controller = k.controller;
+  begins = k.begins;
+  workers = k.workers;
+  seen = k.seen;
+  clients = k.clients;
+  backends = subst (λ (up : UpstreamState). AreBackends up (s.orders ++ order ∷ [])) (sym said) (record {
+    orders_are = ap (λ (list : List Order). list ++ order ∷ []) k.backends.orders_are;
+    some = k.backends.some;
+    unlisted = k.backends.unlisted;
+    ample = k.backends.ample;
+  });
+  statuses = k.statuses;
+  refused = k.refused;
+  skipped = k.skipped;
+})
 
 -- the connections changed
 pub keeps_clients : (old new : Replay) (s : State) (clients : List ℕ → Option Plain) → Keeps old s → new ≡ record old { clients = new.clients }

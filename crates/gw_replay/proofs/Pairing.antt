@@ -66,7 +66,7 @@ request_paired : (name : List ℕ) (line front : ℕ) (chosen : Chosen) (action 
     → paired_text name line (row_by front chosen action answer ++ more) (first ++ rest)
     ≡ flat_map (λ row. row_line name line row (forwarded action answer)) (row_by front chosen action answer) ++ paired_text name line more rest
 request_paired name line front chosen (replies code location fault) answer head endpoint replied first rest more x =
-    takes_none name line (served_row front chosen code fault) first rest more (rw endpoint refl) x
+    takes_none name line (served_row front chosen code fault) first rest more (rw endpoint refl) x.1
 request_paired name line front chosen (forwards to bytes plan) None head endpoint replied first rest more x = absurd replied
 request_paired name line front chosen (forwards to bytes plan) (Some a) head endpoint replied first rest more x =
     answer_paired name line front chosen to bytes rest more endpoint plan head a first x

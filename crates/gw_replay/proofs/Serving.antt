@@ -4,7 +4,10 @@ use Rattle.std.proofs.lemmas.Option.{slice_get-get_or}
 use Rattle.gw_answers.specs.model.ServedRows.{ServedRow}
 use Rattle.gw_frames.specs.model.Requests.{ended}
 use Rattle.gw_link.specs.Exchanges.{Exchange}
-use Rattle.gw_link.specs.Upstreams.{Becomes, UpstreamState}
+use Rattle.gw_link.specs.UpstreamLaws.{IsKept, kept_by}
+use Rattle.gw_link.specs.Upstreams.{Becomes, Refuses, UpstreamState}
+use Rattle.gw_link.specs.declared.order.Order.{Order}
+use Rattle.gw_link.proofs.ScriptLemmas.{AreScripted, scripted_by}
 use Rattle.gw_snap.specs.Lists.{BeginsWith, Seen}
 use Rattle.gw_store.specs.declared.event.Entry.{Entry}
 use Rattle.gw_text.specs.model.Doors.{Door}
@@ -14,7 +17,6 @@ use Rattle.gw_worker.proofs.Linking.{calm, ended_served}
 use Rattle.gw_worker.proofs.Parts.{rows_append}
 use Rattle.gw_worker.proofs.Turning.{settled}
 use Rattle.gw_worker.specs.Conns.{AreServed, AreWhole, IsAllOf, IsServing, StandsFor}
-use Rattle.gw_worker.specs.Exchanges.{HasRisenBy, call_faults}
 use Rattle.gw_worker.specs.Flows.{Flows, Served, Took, outside}
 use Rattle.gw_worker.specs.Workers.{Decided, IsAt}
 use Rattle.gw_worker.specs.declared.conn.Conn.{Conn}
@@ -24,10 +26,11 @@ use Rattle.gw_worker.specs.declared.worker.Worker.{Worker}
 use Rattle.gw_worker.specs.model.Sessions.{Part, Place, a_close, a_cut, a_refused, a_request, a_wait, rows_of, step_of}
 use Rattle.gw_replay.specs.Lines.{end_text, rows_text, written_text}
 use Rattle.gw_replay.specs.Replays.{AreDecidedBy, Client as Plain, Serves, Site, State, place_at}
-use Rattle.gw_replay.specs.States.{IsClient, Keeps, ending_of, site_of}
+use Rattle.gw_replay.specs.States.{AreBackends, IsClient, Keeps, ending_of, site_of}
 use Rattle.gw_replay.specs.declared.replay.Client.{Client}
 use Rattle.gw_replay.specs.declared.replay.Replay.{Replay}
 use Rattle.gw_replay.specs.Pairs.{paired_text}
+use Rattle.gw_replay.proofs.Answering.{all_answered}
 use Rattle.gw_replay.proofs.Keeping.{begins_both, seen_at}
 use Rattle.gw_replay.proofs.Pairing.{all_paired}
 
@@ -114,12 +117,12 @@ rows_before site workers c plain client =
 -- a piece was taken
 pub record Taken (site : Site) (piece : List ℕ) (s : State) (c : Plain) (before after : Worker) (conn : Conn) (flow : Flow) (told0 told : List ℕ) (backends0 backends : UpstreamState) : Type 0 where
   pub nothing : told0 ≡ []
-  pub same : backends0 ≡ s.backends
+  pub told_so : AreBackends backends0 s.orders
   pub worker : slice_get s.workers c.worker ≡ Some before
   pub seen : before.pass ≡ record { seen = s.published; fixed = (site.doors, site.controller) }
   pub held : after.pass.seen ≡ before.pass.seen
   pub fixed : after.pass.fixed ≡ before.pass.fixed
-  pub served : Served (place_at site c.door) before after conn (c.bytes ++ piece) (length piece == 0) c.parts c.text (outside (Some told0) (Some backends0.exchanges) backends0.calls.faults) (outside (Some told) (Some backends.exchanges) backends.calls.faults) flow
+  pub served : Served (Refuses backends0 backends) (place_at site c.door) before after conn (c.bytes ++ piece) (length piece == 0) c.parts c.text (outside (Some told0) (Some backends0.exchanges) backends0.calls.faults) (outside (Some told) (Some backends.exchanges) backends.calls.faults) flow
   pub serving : flow ≡ flows.More → IsServing conn
 
 module _ {site : Site} {piece : List ℕ} {s : State} {c : Plain} {before after : Worker} {conn : Conn} {flow : Flow} {told0 told : List ℕ} {backends0 backends : UpstreamState}
@@ -127,7 +130,7 @@ module _ {site : Site} {piece : List ℕ} {s : State} {c : Plain} {before after 
   abbrev p : Place
   p = place_at site c.door
 
-  abbrev t : Took p before after conn (c.bytes ++ piece) c.parts c.text (outside (Some told0) (Some backends0.exchanges) backends0.calls.faults) (outside (Some told) (Some backends.exchanges) backends.calls.faults)
+  abbrev t : Took (Refuses backends0 backends) p before after conn (c.bytes ++ piece) c.parts c.text (outside (Some told0) (Some backends0.exchanges) backends0.calls.faults) (outside (Some told) (Some backends.exchanges) backends.calls.faults)
   t = v.served.took
 
   served : AreServed p conn.rows (c.parts ++ t.more) (c.text ++ t.wrote)
@@ -140,7 +143,6 @@ module _ {site : Site} {piece : List ℕ} {s : State} {c : Plain} {before after 
   abbrev pub state_after : State
   state_after = record s {
     workers = set s.workers c.worker after;
-    backends = backends;
     statuses = s.statuses ++ map (λ row. row.status) (rows_of p t.more);
   }
 
@@ -156,24 +158,30 @@ module _ {site : Site} {piece : List ℕ} {s : State} {c : Plain} {before after 
     after = after;
     more = t.more;
     wrote = t.wrote;
-    met = t.met;
-    backends = backends;
     worker = v.worker;
     all = all_of (c.bytes ++ piece) (length piece == 0) (c.parts ++ t.more) flow v.served.flows;
     ends = ends_so (c.bytes ++ piece) (length piece == 0) (c.parts ++ t.more) flow v.served.flows;
     decided = t.decided;
     by_published = decided_by p t.more s.published before after (ap (λ (q : Seen Entry (List Door × List ℕ)). q.seen) v.seen) (v.held ∙ ap (λ (q : Seen Entry (List Door × List ℕ)). q.seen) v.seen) t.decided;
-    whole = whole_behind p c.parts t.more served.whole;
+    answered = all_answered s.orders backends0 backends p t.more t.met v.told_so (starved ∙ v.told_so.ample) (whole_behind p c.parts t.more served.whole)
+        (subst (λ (orders : List Order). AreScripted orders t.met) v.told_so.orders_are (scripted_by backends0 backends t.met becomes v.told_so.some exchanges_are))
+        t.exchanged t.refused;
     wrote_is = served.text_is;
-    exchanged = t.exchanged;
-    becomes = subst (λ (b : UpstreamState). Becomes b backends) v.same becomes;
-    told = exchanges_are ∙ ap (λ (b : UpstreamState). b.exchanges ++ t.met) v.same;
-    starved = starved ∙ ap (λ (b : UpstreamState). b.starved) v.same;
-    failed = subst (λ (b : UpstreamState). HasRisenBy (call_faults (rows_of p t.more)) b.calls.faults backends.calls.faults) v.same t.failed;
     client = refl;
     state = refl;
     text_is = refl;
   }
+
+  -- the backends behind it
+  pub backends_so : Becomes backends0 backends → backends.starved ≡ backends0.starved → AreBackends backends s.orders
+  backends_so becomes starved =
+      let kept : IsKept backends0 backends = kept_by backends0 backends becomes in
+      record {
+        orders_are = kept.orders ∙ v.told_so.orders_are;
+        some = subst (λ (n : ℕ). 0 < n) (sym kept.most) v.told_so.some;
+        unlisted = kept.fails ∙ v.told_so.unlisted;
+        ample = starved ∙ v.told_so.ample;
+      }
 
   -- what was written, exchanged, and kept of it
   pub wrote_so : told ≡ t.wrote

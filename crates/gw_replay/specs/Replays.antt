@@ -1,17 +1,20 @@
 -- What comes of a script: each line does its step on what stands after the lines before it.
 use Rattle.std.specs.Prelude.{◌≡◌, ℕ, ℤ, ◌+◌, ◌==◌, List, [], ◌∷◌, ◌++◌, length, map, replicate, set, slice_get, bytes_eq, Bool, true, false, Option, Some, None, Result, Ok, Err, ⊤}
 use Rattle.std.specs.Map.{update}
+use Rattle.gw_answers.specs.model.Decisions.{Action, forwards, replies}
+use Rattle.gw_answers.specs.model.Messages.{is_head}
 use Rattle.gw_frames.specs.declared.ended.Ended.{Ended}
 use Rattle.gw_frames.specs.model.Requests.{ended}
 use Rattle.gw_json.specs.Lines.{line_of}
 use Rattle.gw_json.specs.Refusals.{refusal_number, refusal_path}
 use Rattle.gw_json.specs.declared.refusal.Refusal.{Refusal}
-use Rattle.gw_link.specs.Exchanges.{Exchange}
-use Rattle.gw_link.specs.Memory.{first_call}
-use Rattle.gw_link.specs.Upstreams.{Becomes, UpstreamState}
+use Rattle.gw_link.specs.Upstreams.{answer_at, fails_at}
 use Rattle.gw_link.specs.declared.order.Order.{Order}
 use Rattle.gw_link.specs.declared.order.Order.TheVariants.{Answers, Fails}
+use Rattle.gw_link.specs.declared.order.UpstreamCall.TheVariants as calls
 use Rattle.gw_match.specs.model.Telling.{change_of, world_after}
+use Rattle.gw_replies.specs.declared.fault.BackendFault.TheVariants.{Open, Send, Receive}
+use Rattle.gw_replies.specs.model.Responses.{Outcome, ResponseOf, a_fault, a_response}
 use Rattle.gw_report.specs.Lines.{is_blank}
 use Rattle.gw_report.specs.RunText.{refused_object}
 use Rattle.gw_snap.specs.Lists.{copies}
@@ -24,11 +27,10 @@ use Rattle.gw_store.specs.Events.{Read, a_change, is_skipped, answer}
 use Rattle.gw_store.specs.declared.event.Entry.{Entry}
 use Rattle.gw_text.specs.model.Addresses.{Socket}
 use Rattle.gw_text.specs.model.Doors.{Door}
-use Rattle.gw_worker.specs.Conns.{AreWhole, IsAllOf}
-use Rattle.gw_worker.specs.Exchanges.{Exchanged, HasRisenBy, call_faults}
+use Rattle.gw_worker.specs.Conns.{IsAllOf}
 use Rattle.gw_worker.specs.Workers.{Decided}
 use Rattle.gw_worker.specs.declared.worker.Worker.{Worker}
-use Rattle.gw_worker.specs.model.Sessions.{Part, Place, a_close, a_cut, a_refused, a_request, a_wait, rows_of, written, step_of as bytes_step}
+use Rattle.gw_worker.specs.model.Sessions.{Answer, Part, Place, a_close, a_cut, a_refused, a_request, a_wait, decision_at, rows_of, written, step_of as bytes_step}
 use Rattle.gw_replay.specs.Lines.{front_data, rows_text, written_text, end_text, totals_data}
 
 -- An open connection: its worker and its door, by their numbers; the bytes that came; what came of them; and what was written.
@@ -47,7 +49,8 @@ pub record State : Type 0 where
   pub workers : List Worker
   -- the open connection of each name
   pub clients : List ℕ → Option Client
-  pub backends : UpstreamState
+  -- what the backends do, in the order in which that was said
+  pub orders : List Order
   -- the status of each row, in their order
   pub statuses : List ℕ
   pub refused : ℕ
@@ -65,10 +68,6 @@ place_at site door = record { doors = site.doors; controller = site.controller; 
 abbrev pub new_worker : Site → Worker
 new_worker site = record { pass = record { seen = []; fixed = (site.doors, site.controller) }; books = record { backends = []; endpoints = [] } }
 
--- Backends for which nothing was said yet.
-abbrev pub new_backends : UpstreamState
-new_backends = record { orders = []; exchanges = []; at = None; got = 0; most = 18446744073709551615; starved = 0; calls = first_call [] }
-
 -- Before the first line, with so many workers.
 abbrev pub beginning : Site → ℕ → State
 beginning site workers = record {
@@ -76,7 +75,7 @@ beginning site workers = record {
   published = [];
   workers = copies workers (new_worker site);
   clients = λ name. None;
-  backends = new_backends;
+  orders = [];
   statuses = [];
   refused = 0;
   skipped = 0;
@@ -127,33 +126,57 @@ AreDecidedBy list (a_refused code ∷ parts) = AreDecidedBy list parts
 AreDecidedBy list (a_close ∷ parts) = AreDecidedBy list parts
 AreDecidedBy list (a_cut ∷ parts) = AreDecidedBy list parts
 
+-- What a backend's answer is.
+abbrev pub outcome_of : Answer → Outcome
+outcome_of (Ok r) = a_response r
+outcome_of (Err fault) = a_fault fault
+
+-- What a backend answers of whose calls to open, to send and to receive these fail, and which gives these bytes and then its end: the
+-- first of the calls that fails, or what all its bytes come to.
+abbrev pub AnswersSo : Bool → Bool → Bool → List ℕ → Bool → Answer → Type 0
+AnswersSo true sends receives bytes head answer = answer ≡ Err Open
+AnswersSo false true receives bytes head answer = answer ≡ Err Send
+AnswersSo false false true bytes head answer = answer ≡ Err Receive
+AnswersSo false false false bytes head answer = ResponseOf head bytes true (outcome_of answer)
+
+-- What the backend at a socket answers after these orders, to HEAD or another method.
+abbrev pub AnswersBy : List Order → Socket → Bool → Answer → Type 0
+AnswersBy orders to head answer =
+    AnswersSo (fails_at calls.Connect to orders) (fails_at calls.Send to orders) (fails_at calls.Receive to orders) (answer_at to orders) head answer
+
+-- A request that goes to a backend has that backend's answer; another one has none.
+abbrev pub IsAnswered : List Order → Action → Bool → Option Answer → Type 0
+IsAnswered orders (replies code location fault) head answer = answer ≡ None
+IsAnswered orders (forwards to bytes plan) head None = ⊥
+IsAnswered orders (forwards to bytes plan) head (Some answer) = AnswersBy orders to head answer
+
+-- Each of the requests among these.
+abbrev pub AreAnswered : List Order → Place → List Part → Type 0
+AreAnswered orders p [] = ⊤
+AreAnswered orders p (a_request q h ∷ parts) = IsAnswered orders (decision_at p q h).action (is_head q) h.answer × AreAnswered orders p parts
+AreAnswered orders p (a_wait ∷ parts) = AreAnswered orders p parts
+AreAnswered orders p (a_refused code ∷ parts) = AreAnswered orders p parts
+AreAnswered orders p (a_close ∷ parts) = AreAnswered orders p parts
+AreAnswered orders p (a_cut ∷ parts) = AreAnswered orders p parts
+
 -- A connection is served by a piece of its bytes, where an empty piece is their end. What came of it is all that the bytes give. Each
 -- request among that is decided by the published list, and by the worker's books behind the requests before it, over all its connections.
--- The backends answer as the script has said, and no call of theirs fails for want of memory. All replies are written.
+-- The backends answer as the lines before have said. All replies are written.
 pub record Serves (p : Place) (line : ℕ) (name : List ℕ) (c c' : Client) (piece : List ℕ) (ending : Option Ended) (s s' : State) (text : List ℕ) : Type 0 where
   pub before : Worker
   pub after : Worker
   pub more : List Part
   pub wrote : List ℕ
-  pub met : List Exchange
-  pub backends : UpstreamState
   pub worker : slice_get s.workers c.worker ≡ Some before
   pub all : IsAllOf (c.bytes ++ piece) (length piece == 0) (c.parts ++ more)
   pub ends : ended (map bytes_step (c.parts ++ more)) ≡ ending
   pub decided : Decided p before after more
   pub by_published : AreDecidedBy s.published more
-  pub whole : AreWhole p more
+  pub answered : AreAnswered s.orders p more
   pub wrote_is : c.text ++ wrote ≡ written p (c.parts ++ more)
-  pub exchanged : Exchanged p more met
-  pub becomes : Becomes s.backends backends
-  pub told : backends.exchanges ≡ s.backends.exchanges ++ met
-  pub starved : backends.starved ≡ s.backends.starved
-  -- as many calls failed at least as there are rows with such a fault
-  pub failed : HasRisenBy (call_faults (rows_of p more)) s.backends.calls.faults backends.calls.faults
   pub client : c' ≡ record c { bytes = c.bytes ++ piece; parts = c.parts ++ more; text = c.text ++ wrote }
   pub state : s' ≡ record s {
     workers = set s.workers c.worker after;
-    backends = backends;
     statuses = s.statuses ++ map (λ row. row.status) (rows_of p more);
   }
   pub text_is : text ≡ rows_text name line p more ++ written_text name line wrote ++ end_text name line ending
@@ -177,7 +200,7 @@ IsAnswer (Answers at text) socket bytes = (at ≡ socket) × (text.items ≡ byt
 IsAnswer (Fails at call) socket bytes = ⊥
 
 abbrev pub with_order : State → Order → State
-with_order s order = record s { backends = record s.backends { orders = s.backends.orders ++ order ∷ [] } }
+with_order s order = record s { orders = s.orders ++ order ∷ [] }
 
 -- What a step does. An event has its moment; no other step has one. A backend's text is followed by so many `x`.
 abbrev pub StepDone : Site → ℕ → Step → List ℤ → State → State → List ℕ → Type 0

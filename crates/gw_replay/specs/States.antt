@@ -6,6 +6,7 @@ use Rattle.gw_hub.specs.Control.{Control}
 use Rattle.gw_hub.specs.declared.outcome.Outcome.{Outcome}
 use Rattle.gw_hub.specs.declared.outcome.Outcome.TheVariants.{Accepted, Skipped}
 use Rattle.gw_link.specs.Moments.{TicksInTurn}
+use Rattle.gw_link.specs.Upstreams.{UpstreamState}
 use Rattle.gw_link.specs.declared.order.Order.{Order}
 use Rattle.gw_match.specs.model.Telling.{world_after}
 use Rattle.gw_snap.specs.Lists.{BeginsWith, Seen}
@@ -53,6 +54,13 @@ abbrev pub HaveSeen : Seen Entry (List Door × List ℕ) → List Worker → Typ
 HaveSeen seen [] = ⊤
 HaveSeen seen (w ∷ workers) = (w.pass ≡ seen) × HaveSeen seen workers
 
+-- Backends in memory that do what was said of them: no call of theirs fails by its number, and none wanted memory so far.
+pub record AreBackends (up : UpstreamState) (orders : List Order) : Type 0 where
+  pub orders_are : up.orders ≡ orders
+  pub some : 0 < up.most
+  pub unlisted : up.calls.fails ≡ []
+  pub ample : up.starved ≡ 0
+
 -- What is kept is what stands after the lines so far.
 pub record Keeps (r : Replay) (s : State) : Type 0 where
   pub controller : r.controller ≡ control_after r.controller s.changes s.published
@@ -60,7 +68,7 @@ pub record Keeps (r : Replay) (s : State) : Type 0 where
   pub workers : r.workers.items ≡ s.workers
   pub seen : HaveSeen (record { seen = s.published; fixed = (r.controller.doors, r.controller.controller) }) s.workers
   pub clients : (name : List ℕ) → Matches (site_of r) (length s.workers) (get_by_text r.clients name) (s.clients name)
-  pub backends : r.backends ≡ s.backends
+  pub backends : AreBackends r.backends s.orders
   pub statuses : r.statuses.items ≡ s.statuses
   pub refused : r.refused ≡ s.refused
   pub skipped : r.skipped ≡ s.skipped

@@ -2,7 +2,7 @@
 ghost use Rattle.std.specs.Prelude.{◌≡◌, ◌+◌, ◌<◌, ◌≤◌, ◌^◌, ◌==◌, ◌++◌, ℕ, List, [], Some, length, map, bytes_eq, IfOk, OnOk};
 ghost use Rattle.std.specs.BTreeMap.{get_by_text};
 ghost use Rattle.std.specs.Map.{update};
-ghost use Rattle.gw_link.specs.Upstreams.{Becomes};
+ghost use Rattle.gw_link.specs.Upstreams.{Becomes, Refuses};
 ghost use Rattle.gw_worker.specs.Conns.{IsServing, StandsFor};
 ghost use Rattle.gw_worker.specs.Flows.{Served, outside};
 ghost use Rattle.gw_worker.specs.Workers.{IsAt};
@@ -120,7 +120,7 @@ fn take(
     requires door { conn.old.door < length worker.old.pass.fixed.0 }
     requires serving { IsServing conn.old }
     ensures served { IfOk result (λ flow. (p : Place) (bytes : List ℕ) (parts : List Part) (text : List ℕ) → IsAt worker.old p → StandsFor conn.old p bytes parts text
-        → Served p worker.old worker.new conn.new (bytes ++ piece.now) (length piece.now == 0) parts text
+        → Served (Refuses backends.old backends.new) p worker.old worker.new conn.new (bytes ++ piece.now) (length piece.now == 0) parts text
         (outside (Some link.old.sink.written) (Some backends.old.exchanges) backends.old.calls.faults)
         (outside (Some link.new.sink.written) (Some backends.new.exchanges) backends.new.calls.faults) flow) }
     ensures serving { result ≡ Ok Flow.More → IsServing conn.new }

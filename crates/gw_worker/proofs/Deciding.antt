@@ -21,8 +21,7 @@ use Rattle.gw_text.specs.model.Filters.{Redirect}
 use Rattle.gw_text.specs.model.Plans.{Backend}
 use Rattle.gw_text.specs.model.References.{BackendState, invalid_kind, not_permitted, not_found as no_service, bad_protocol, no_endpoints, ready}
 use Rattle.gw_worker.specs.Exchanges.{is_call_fault}
-use Rattle.gw_worker.specs.Steps.{handled_by}
-use Rattle.gw_worker.specs.Workers.{Decides, IsLeftBy}
+use Rattle.gw_worker.specs.Workers.{Decides, IsLeftBy, handled_by}
 use Rattle.gw_worker.specs.declared.worker.Worker.{Worker}
 use Rattle.gw_worker.specs.model.Sessions.{Place, no_rows, rows_after}
 
@@ -49,16 +48,16 @@ table_is t table door p seen before after stands is value fixed doors controller
 pub begins_itself : {C : Type 0} (list : List C) → BeginsWith list list
 begins_itself list = ([], sym (append-nil list))
 
--- a worker that changed nothing
-pub left_alone : (p : Place) (w : Worker) → IsLeftBy p w w
-left_alone p w = record { later = begins_itself w.pass.seen; fixed = refl; books = inl refl }
+-- a request that wasn't decided changed nothing
+pub left_alone : (p : Place) (w : Worker) (q : Request) → IsLeftBy p w w q
+left_alone p w q = record { later = begins_itself w.pass.seen; fixed = refl; books = record { backends = inl refl; endpoints = inl refl } }
 
 -- a request was decided, and nothing came of it
-pub left_behind : (p : Place) (before after : Worker) (q : Request) → Decides p before after q (handled_by before after) → IsLeftBy p before after
+pub left_behind : (p : Place) (before after : Worker) (q : Request) → Decides p before after q (handled_by before after) → IsLeftBy p before after q
 left_behind p before after q d = record {
   later = d.later;
   fixed = d.fixed;
-  books = inr (q, subst (λ (b : Books). AreLeft before.books b after.books) d.counted (record { backends = inr (inl refl); endpoints = inr (inl refl) }));
+  books = subst (λ (b : Books). AreLeft before.books b after.books) d.counted (record { backends = inr (inl refl); endpoints = inr (inl refl) });
 }
 
 -- A reply of this program's own has no fault of a call.

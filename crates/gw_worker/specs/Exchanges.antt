@@ -1,13 +1,14 @@
 -- What was exchanged with backends.
-use Rattle.std.specs.Prelude.{◌≡◌, ◌⊎◌, ◌+◌, ◌≤◌, ℕ, List, [], ◌∷◌, ◌++◌, Bool, true, false, Option, Some, None, IfSome, Result, Ok, Err, count_by}
+use Rattle.std.specs.Prelude.{◌≡◌, ◌⊎◌, ◌+◌, ◌≤◌, ℕ, List, [], ◌∷◌, ◌++◌, Bool, true, false, Option, Some, None, IfSome, Result, Ok, Err, count_by, ⊤}
 use Rattle.gw_answers.specs.model.Decisions.{Action, forwards, replies}
 use Rattle.gw_answers.specs.model.Messages.{is_head}
 use Rattle.gw_answers.specs.model.ServedRows.{ServedRow}
-use Rattle.gw_exchange.specs.Exchanged.{Ends}
+use Rattle.gw_exchange.specs.Exchanged.{Ends, IsRefused}
 use Rattle.gw_exchange.specs.declared.fault.ExchangeFault.{ExchangeFault}
 use Rattle.gw_exchange.specs.declared.fault.ExchangeFault.TheVariants.{Backend as OfBackend}
 use Rattle.gw_link.specs.Exchanges.{Exchange}
 use Rattle.gw_link.specs.Faults.{last_count}
+use Rattle.gw_link.specs.declared.order.UpstreamCall.{UpstreamCall}
 use Rattle.gw_replies.specs.declared.fault.BackendFault.TheVariants.{Open, Send, Receive, Head, Body, TooBig, Cut}
 use Rattle.gw_replies.specs.declared.fault.FaultName.{FaultName}
 use Rattle.gw_replies.specs.declared.fault.FaultName.TheVariants.{NoBackend, InvalidKind, RefNotPermitted, BackendNotFound, UnsupportedProtocol, NoEndpoints, Backend}
@@ -26,9 +27,9 @@ abbrev pub IsExchanged : Socket → List ℕ → Bool → Result Response Exchan
 IsExchanged to bytes head (Err (OfBackend Open)) met = met ≡ []
 IsExchanged to bytes head result met = (e : Exchange) × ((met ≡ e ∷ []) × (e.to ≡ to) × Ends bytes head e result)
 
--- What was exchanged for what is done about a request.
+-- What was exchanged for what is done about a request. One that goes to no backend has no answer of a backend.
 abbrev pub ExchangedBy : Action → Option Answer → Bool → List Exchange → Type 0
-ExchangedBy (replies code location fault) answer head met = met ≡ []
+ExchangedBy (replies code location fault) answer head met = (answer ≡ None) × (met ≡ [])
 ExchangedBy (forwards to bytes plan) None head met = met ≡ []
 ExchangedBy (forwards to bytes plan) (Some a) head met = IsExchanged to bytes head (as_given a) met
 
@@ -45,6 +46,21 @@ abbrev pub Exchanged : Place → List Part → List Exchange → Type 0
 Exchanged p [] met = met ≡ []
 Exchanged p (part ∷ parts) met =
     (first : List Exchange) × ((rest : List Exchange) × ((met ≡ first ++ rest) × PartExchanged p part first × Exchanged p parts rest))
+
+-- Where a backend's answer is a call that failed, that call failed at the backend's socket.
+abbrev pub RefusedBy : (UpstreamCall → Socket → Type 0) → Action → Option Answer → Type 0
+RefusedBy refuses (replies code location fault) answer = ⊤
+RefusedBy refuses (forwards to bytes plan) None = ⊤
+RefusedBy refuses (forwards to bytes plan) (Some a) = IsRefused refuses to (as_given a)
+
+-- The same of each request.
+abbrev pub AreRefused : (UpstreamCall → Socket → Type 0) → Place → List Part → Type 0
+AreRefused refuses p [] = ⊤
+AreRefused refuses p (a_request q h ∷ parts) = RefusedBy refuses (decision_at p q h).action h.answer × AreRefused refuses p parts
+AreRefused refuses p (a_wait ∷ parts) = AreRefused refuses p parts
+AreRefused refuses p (a_refused code ∷ parts) = AreRefused refuses p parts
+AreRefused refuses p (a_close ∷ parts) = AreRefused refuses p parts
+AreRefused refuses p (a_cut ∷ parts) = AreRefused refuses p parts
 
 -- These exchanges more are told. Of an upstream that doesn't tell, None, nothing is said.
 abbrev pub TellsAll : Option (List Exchange) → List Exchange → Option (List Exchange) → Type 0

@@ -8,12 +8,7 @@ use Rattle.gw_worker.specs.Conns.{StandsFor}
 use Rattle.gw_worker.specs.Turns.{Says, text_of}
 use Rattle.gw_worker.specs.declared.conn.Conn.{Conn}
 use Rattle.gw_worker.specs.declared.turn.Turn.{Turn}
-use Rattle.gw_worker.specs.declared.worker.Worker.{Worker}
 use Rattle.gw_worker.specs.model.Sessions.{Handled, Part, Place, asks_behind, decision_at, is_last}
-
--- How a worker decided a request that no backend answered yet.
-abbrev pub handled_by : Worker → Worker → Handled
-handled_by before after = record { changes = after.pass.seen; books = before.books; answer = None }
 
 -- All that the reply or the exchange of a request is made by.
 pub record IsReady (p : Place) (parts : List Part) (q : Request) (h : Handled) (front : ℕ) (d : Decision) (head last : Bool) : Type 0 where

@@ -2,12 +2,12 @@
 use Rattle.std.specs.Prelude.{◌≡◌, ℕ, ◌<◌, Bool, List, [], ◌∷◌, ◌++◌, map, None, Some, ⊤}
 use Rattle.gw_answers.specs.model.Decisions.{forwards}
 use Rattle.gw_answers.specs.model.Messages.{is_head}
-use Rattle.gw_frames.specs.Inlets.{is_over}
-use Rattle.gw_frames.specs.model.Requests.{Request, ended}
+use Rattle.gw_frames.specs.Inlets.{StandsFor as InletStandsFor, is_over}
+use Rattle.gw_frames.specs.model.Requests.{Request, Step, ended}
 use Rattle.gw_text.specs.model.Addresses.{Socket}
 use Rattle.gw_text.specs.model.Plans.{Plan}
 use Rattle.gw_worker.specs.Conns.{IsAllOf, IsAsking, IsSettled, StandsFor}
-use Rattle.gw_worker.specs.Workers.{Decided}
+use Rattle.gw_worker.specs.Workers.{Decided, IsLeftOpen}
 use Rattle.gw_worker.specs.declared.conn.Conn.{Conn}
 use Rattle.gw_worker.specs.declared.conn.Stage.{Stage}
 use Rattle.gw_worker.specs.declared.conn.Stage.TheVariants.{Reading, Asking, Answered, Ended as IsEnded}
@@ -55,6 +55,12 @@ pub record Continues (p : Place) (before after : Worker) (c : Conn) (bytes : Lis
   pub decided : Decided p before after more
   pub unanswered : AreUnanswered more
   pub says : Says p bytes (is_over c.inlet) parts more turn
+
+-- No turn was made, for want of memory or a place: what came more of the bytes is left open.
+pub record IsStuck (p : Place) (before after : Worker) (c : Conn) (bytes : List ℕ) (parts : List Part) : Type 0 where
+  pub steps : List Step
+  pub inlet : InletStandsFor c.inlet bytes (map step_of parts ++ steps)
+  pub left : IsLeftOpen p before after steps []
 
 -- What comes behind a turn.
 abbrev pub IsBehind : Turn → Stage → Type 0

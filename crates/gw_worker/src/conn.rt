@@ -4,8 +4,8 @@ ghost use Rattle.gw_frames.specs.model.Requests.{ended};
 ghost use Rattle.gw_link.specs.Exchanges.{change_last};
 ghost use Rattle.gw_snap.specs.Lists.{BeginsWith};
 ghost use Rattle.gw_worker.specs.Conns.{GoesOn, IsAnswered, IsAsking, IsFed, IsUnfinished, StandsFor, turns_left, with_answer};
-ghost use Rattle.gw_worker.specs.Turns.{Continues, IsBehind, IsReply, IsReplying, IsWrite, LeavesFewer};
-ghost use Rattle.gw_worker.specs.Workers.{IsAt, IsLeftBy};
+ghost use Rattle.gw_worker.specs.Turns.{Continues, IsBehind, IsReply, IsReplying, IsStuck, IsWrite, LeavesFewer};
+ghost use Rattle.gw_worker.specs.Workers.{IsAt};
 ghost use Rattle.gw_worker.specs.model.Sessions.{Part, Place};
 
 use crate::turn::Turn;
@@ -125,7 +125,8 @@ impl Conn {
         ensures fewer { IfOk result (λ turn. (bytes : List ℕ) → IsFed self.old bytes → LeavesFewer turn (turns_left self.new) (turns_left self.old)) }
         ensures inlet { GoesOn self.old.inlet self.new.inlet }
         ensures over { is_over self.new.inlet ≡ is_over self.old.inlet }
-        ensures err { OnErr result ((p : Place) → IsAt w.old p → p.door ≡ self.old.door → IsLeftBy p w.old w.new) }
+        ensures err { OnErr result ((p : Place) (bytes : List ℕ) (parts : List Part) (text : List ℕ) → IsAt w.old p
+            → StandsFor self.old p bytes parts text → IsStuck p w.old w.new self.new bytes parts) }
         ensures rows { OnErr result (self.new.rows ≡ self.old.rows) }
         ensures later { BeginsWith w.old.pass.seen w.new.pass.seen }
         ensures fixed { w.new.pass.fixed ≡ w.old.pass.fixed }

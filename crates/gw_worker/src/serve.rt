@@ -43,10 +43,10 @@ pub fn serve_proxy<K: Link, U: Upstream>(
 ) -> Result<Session, Broken>
     requires { door < length w.old.pass.fixed.0 }
     ensures served { IfOk result (λ session. (p : Place) → IsAt w.old p → p.door ≡ door
-        → HasServed p w.old w.new session.rows session.ended (K.left link.old) (K.left link.new)
+        → HasServed (U.refuses up.old up.new) p w.old w.new session.rows session.ended (K.left link.old) (K.left link.new)
         (outside (K.written link.old) (U.exchanges up.old) (U.faults up.old)) (outside (K.written link.new) (U.exchanges up.new) (U.faults up.new))) }
     ensures broken { IfErr result (λ broken. (p : Place) → IsAt w.old p → p.door ≡ door
-        → HasBroken p w.old w.new broken.rows (K.left link.old) (K.left link.new)
+        → HasBroken (U.refuses up.old up.new) p w.old w.new broken.rows (K.left link.old) (K.left link.new)
         (outside (K.written link.old) (U.exchanges up.old) (U.faults up.old)) (outside (K.written link.new) (U.exchanges up.new) (U.faults up.new))) }
 
     // What a connection is given up by.
@@ -86,10 +86,10 @@ fn serve<K: Link, U: Upstream>(
     requires door { conn.old.door < length w.old.pass.fixed.0 }
     requires serving { IsServing conn.old }
     ensures ran { IfOk result (λ why. (p : Place) (bytes : List ℕ) (parts : List Part) (text : List ℕ) → IsAt w.old p → StandsFor conn.old p bytes parts text
-        → Ran p w.old w.new conn.new bytes parts text (K.left link.old) (K.left link.new)
+        → Ran (U.refuses up.old up.new) p w.old w.new conn.new bytes parts text (K.left link.old) (K.left link.new)
         (outside (K.written link.old) (U.exchanges up.old) (U.faults up.old)) (outside (K.written link.new) (U.exchanges up.new) (U.faults up.new)) why) }
     ensures stopped { OnErr result ((p : Place) (bytes : List ℕ) (parts : List Part) (text : List ℕ) → IsAt w.old p → StandsFor conn.old p bytes parts text
-        → Stopped p w.old w.new conn.new bytes parts text (K.left link.old) (K.left link.new)
+        → Stopped (U.refuses up.old up.new) p w.old w.new conn.new bytes parts text (K.left link.old) (K.left link.new)
         (outside (K.written link.old) (U.exchanges up.old) (U.faults up.old)) (outside (K.written link.new) (U.exchanges up.new) (U.faults up.new))) }
     ensures read { result ≡ Err ConnFault.Read → HasRisen (K.faults link.old) (K.faults link.new) }
     ensures write { result ≡ Err ConnFault.Write → HasRisen (K.faults link.old) (K.faults link.new) }

@@ -7,7 +7,7 @@ ghost use Rattle.gw_replies.specs.model.Written.{own};
 ghost use Rattle.gw_snap.specs.Lists.{BeginsWith};
 ghost use Rattle.gw_worker.specs.Conns.{AreServed, GoesOn, IsFed, IsUnfinished, StandsBehind, StandsFor, turns_left};
 ghost use Rattle.gw_worker.specs.Steps.{Came, IsReady};
-ghost use Rattle.gw_worker.specs.Turns.{Continues, IsActive, IsBehind, LeavesFewer};
+ghost use Rattle.gw_worker.specs.Turns.{Continues, IsActive, IsBehind, IsStuck, LeavesFewer};
 ghost use Rattle.gw_worker.specs.Workers.{IsAt, IsLeftBy};
 ghost use Rattle.gw_worker.specs.model.Sessions.{a_close, a_cut, a_refused, a_request, a_wait, asks_behind, Handled, is_last as is_last_of, Part, Place};
 
@@ -34,7 +34,8 @@ impl Conn {
         ensures fewer { IfOk result (λ turn. (bytes : List ℕ) → IsFed self.old bytes → LeavesFewer turn (turns_left self.new) (turns_left self.old)) }
         ensures inlet { GoesOn self.old.inlet self.new.inlet }
         ensures over { is_over self.new.inlet ≡ is_over self.old.inlet }
-        ensures err { OnErr result ((p : Place) → IsAt w.old p → p.door ≡ self.old.door → IsLeftBy p w.old w.new) }
+        ensures err { OnErr result ((p : Place) (bytes : List ℕ) (parts : List Part) (text : List ℕ) → IsAt w.old p
+            → StandsFor self.old p bytes parts text → IsStuck p w.old w.new self.new bytes parts) }
         ensures rows { OnErr result (self.new.rows ≡ self.old.rows) }
         ensures later { BeginsWith w.old.pass.seen w.new.pass.seen }
         ensures fixed { w.new.pass.fixed ≡ w.old.pass.fixed }
@@ -111,7 +112,7 @@ impl Conn {
         ensures active { IfOk result IsActive }
         ensures behind { IfOk result (λ turn. IsBehind turn self.new.stage) }
         ensures inlet { self.new.inlet ≡ self.old.inlet }
-        ensures err { OnErr result ((p : Place) → IsAt w.old p → p.door ≡ self.old.door → IsLeftBy p w.old w.new) }
+        ensures err { OnErr result ((p : Place) → IsAt w.old p → p.door ≡ self.old.door → IsLeftBy p w.old w.new request.now) }
         ensures rows { OnErr result (self.new.rows ≡ self.old.rows) }
         ensures later { BeginsWith w.old.pass.seen w.new.pass.seen }
         ensures fixed { w.new.pass.fixed ≡ w.old.pass.fixed }

@@ -6,7 +6,7 @@ ghost use Rattle.gw_link.specs.Pieces.{Keeps, Takes, TakesPart};
 ghost use Rattle.gw_message_laws.specs.declared.requests.TheConstants.{MOST_OPEN_BYTES};
 ghost use Rattle.gw_snap.specs.Lists.{BeginsWith};
 ghost use Rattle.gw_worker.specs.Conns.{GoesOn, IsAsking, IsFed, IsServing, IsSettled, IsUnfinished, StandsFor, turns_left, with_answer};
-ghost use Rattle.gw_worker.specs.Flows.{BrokeOff, IsUnwritten, Meets, outside, Replied, Served, TellsMore, TookTo};
+ghost use Rattle.gw_worker.specs.Flows.{BrokeOff, IsUnwritten, Meets, outside, Replied, Served, TellsOne, TookTo};
 ghost use Rattle.gw_worker.specs.Workers.{IsAt};
 ghost use Rattle.gw_worker.specs.model.Sessions.{Part, Place};
 
@@ -43,14 +43,14 @@ impl Conn {
         requires door { self.old.door < length w.old.pass.fixed.0 }
         requires serving { IsServing self.old }
         ensures served { IfOk result (λ flow. (p : Place) (bytes : List ℕ) (parts : List Part) (text : List ℕ) → IsAt w.old p → StandsFor self.old p bytes parts text
-            → Served p w.old w.new self.new (bytes ++ piece.now) (length piece.now == 0) parts text
+            → Served (U.refuses up.old up.new) p w.old w.new self.new (bytes ++ piece.now) (length piece.now == 0) parts text
             (outside (K.written link.old) (U.exchanges up.old) (U.faults up.old)) (outside (K.written link.new) (U.exchanges up.new) (U.faults up.new)) flow) }
         ensures serving { result ≡ Ok Flow.More → IsServing self.new }
         ensures short { result ≡ Ok Flow.More → (bytes : List ℕ) → IsFed self.old bytes
             → IsFed self.new (bytes ++ piece.now) × (length (bytes ++ piece.now) ≤ MOST_OPEN_BYTES) }
         ensures over { OnOk result (is_over self.new.inlet ≡ (length piece.now == 0)) }
         ensures broke { OnErr result ((p : Place) (bytes : List ℕ) (parts : List Part) (text : List ℕ) → IsAt w.old p → StandsFor self.old p bytes parts text
-            → BrokeOff p w.old w.new self.new (bytes ++ piece.now) parts text
+            → BrokeOff (U.refuses up.old up.new) p w.old w.new self.new (bytes ++ piece.now) parts text
             (outside (K.written link.old) (U.exchanges up.old) (U.faults up.old)) (outside (K.written link.new) (U.exchanges up.new) (U.faults up.new))) }
 
         // What a call is given up by.
@@ -84,10 +84,10 @@ impl Conn {
         requires settled { IsSettled self.old.stage }
         requires fed { (bytes : List ℕ) × IsFed self.old bytes }
         ensures served { IfOk result (λ flow. (p : Place) (bytes : List ℕ) (parts : List Part) (text : List ℕ) → IsAt w.old p → StandsFor self.old p bytes parts text
-            → Served p w.old w.new self.new bytes (is_over self.new.inlet) parts text
+            → Served (U.refuses up.old up.new) p w.old w.new self.new bytes (is_over self.new.inlet) parts text
             (outside (K.written link.old) (U.exchanges up.old) (U.faults up.old)) (outside (K.written link.new) (U.exchanges up.new) (U.faults up.new)) flow) }
         ensures broke { OnErr result ((p : Place) (bytes : List ℕ) (parts : List Part) (text : List ℕ) → IsAt w.old p → StandsFor self.old p bytes parts text
-            → BrokeOff p w.old w.new self.new bytes parts text
+            → BrokeOff (U.refuses up.old up.new) p w.old w.new self.new bytes parts text
             (outside (K.written link.old) (U.exchanges up.old) (U.faults up.old)) (outside (K.written link.new) (U.exchanges up.new) (U.faults up.new))) }
         ensures more { result ≡ Ok Flow.More → self.new.stage ≡ Stage.Reading }
         ensures unfinished { result ≡ Ok Flow.More → (bytes : List ℕ) → IsFed self.old bytes → IsUnfinished self.new bytes }
@@ -122,10 +122,10 @@ impl Conn {
         requires door { self.old.door < length w.old.pass.fixed.0 }
         requires settled { IsSettled self.old.stage }
         ensures took { IfOk result (λ flow. (p : Place) (bytes : List ℕ) (parts : List Part) (text : List ℕ) → IsAt w.old p → StandsFor self.old p bytes parts text
-            → TookTo p w.old w.new self.new bytes (is_over self.new.inlet) parts text
+            → TookTo (U.refuses up.old up.new) p w.old w.new self.new bytes (is_over self.new.inlet) parts text
             (outside (K.written link.old) (U.exchanges up.old) (U.faults up.old)) (outside (K.written link.new) (U.exchanges up.new) (U.faults up.new)) flow) }
         ensures broke { OnErr result ((p : Place) (bytes : List ℕ) (parts : List Part) (text : List ℕ) → IsAt w.old p → StandsFor self.old p bytes parts text
-            → BrokeOff p w.old w.new self.new bytes parts text
+            → BrokeOff (U.refuses up.old up.new) p w.old w.new self.new bytes parts text
             (outside (K.written link.old) (U.exchanges up.old) (U.faults up.old)) (outside (K.written link.new) (U.exchanges up.new) (U.faults up.new))) }
         ensures settled { OnOk result (IsSettled self.new.stage) }
         ensures more { result ≡ Ok (Some Flow.More) → self.new.stage ≡ Stage.Reading }
@@ -176,8 +176,7 @@ impl Conn {
         ensures worker { w.new ≡ w.old }
         ensures settled { OnOk result (IsSettled self.new.stage) }
         ensures fewer { OnOk result ((bytes : List ℕ) → IsFed self.old bytes → turns_left self.new < turns_left self.old) }
-        ensures inlet { GoesOn self.old.inlet self.new.inlet }
-        ensures over { is_over self.new.inlet ≡ is_over self.old.inlet }
+        ensures inlet { self.new.inlet ≡ self.old.inlet }
         ensures write { result ≡ Err ConnFault.Write → HasRisen (K.faults link.old) (K.faults link.new) }
         ensures read { result ≡ Err ConnFault.Read → ⊥ }
         ensures place { result ≡ Err ConnFault.Place → ⊥ }
@@ -214,8 +213,8 @@ fn ask<U: Upstream>(
     bytes: &Text,
     head: bool,
 ) -> Result<Result<Response, BackendFault>, NoMemory>
-    ensures met { IfOk result (λ answer. Meets to bytes.now head answer (outside None (U.exchanges up.old) (U.faults up.old)) (outside None (U.exchanges up.new) (U.faults up.new))) }
-    ensures broke { OnErr result (TellsMore (U.exchanges up.old) (U.exchanges up.new)) }
+    ensures met { IfOk result (λ answer. Meets (U.refuses up.old up.new) to bytes.now head answer (outside None (U.exchanges up.old) (U.faults up.old)) (outside None (U.exchanges up.new) (U.faults up.new))) }
+    ensures broke { OnErr result (TellsOne to bytes.now (U.exchanges up.old) (U.exchanges up.new)) }
     ensures later { U.faults up.old ≤ U.faults up.new }
     ensures becomes { U.becomes up.old up.new }
 {

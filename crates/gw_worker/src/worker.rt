@@ -1,7 +1,6 @@
 ghost use Rattle.std.specs.Prelude.{◌≡◌, ◌<◌, ◌⊎◌, [], length, IfOk, OnOk, OnErr};
 ghost use Rattle.gw_snap.specs.Lists.{BeginsWith};
-ghost use Rattle.gw_worker.specs.Steps.{handled_by};
-ghost use Rattle.gw_worker.specs.Workers.{Decides, IsAt, IsLeftBy};
+ghost use Rattle.gw_worker.specs.Workers.{Decides, handled_by, IsAt, IsLeftBy};
 ghost use Rattle.gw_worker.specs.model.Sessions.{decision_at, Place};
 
 use gw_answers::{Books, Decision, decided};
@@ -59,7 +58,7 @@ impl Worker {
         ensures front { IfOk result (λ d. d.0 ≡ length self.new.pass.seen) }
         ensures decision { IfOk result (λ d. (p : Place) → IsAt self.old p → p.door ≡ door → d.1 ≡ decision_at p request.now (handled_by self.old self.new)) }
         ensures decides { OnOk result ((p : Place) → IsAt self.old p → p.door ≡ door → Decides p self.old self.new request.now (handled_by self.old self.new)) }
-        ensures err { OnErr result ((p : Place) → IsAt self.old p → p.door ≡ door → IsLeftBy p self.old self.new) }
+        ensures err { OnErr result ((p : Place) → IsAt self.old p → p.door ≡ door → IsLeftBy p self.old self.new request.now) }
         ensures later { BeginsWith self.old.pass.seen self.new.pass.seen }
         ensures fixed { self.new.pass.fixed ≡ self.old.pass.fixed }
         ensures held { self.new.pass.seen ≡ self.old.pass.seen }

@@ -8,6 +8,9 @@ use std::test::*;
 // Two requests of 28 bytes each. What is sent for each has 66 bytes, and the answer of the backend 52, which the reply has too.
 const TWO: &[u8; 56] = b"GET /a HTTP/1.1\r\nHost: x\r\n\r\nGET /a HTTP/1.1\r\nHost: x\r\n\r\n";
 
+// One request, whose backend must not be asked twice.
+const POST: &[u8; 49] = b"POST /a HTTP/1.1\r\nHost: x\r\nContent-Length: 1\r\n\r\nz";
+
 // No call has this number.
 const NONE: u64 = 1000;
 
@@ -148,5 +151,19 @@ fn each_call_of_the_backend_fails_in_turn(rt: HostRuntime) -> Result<(), Fail> {
         let found = served(alloc, &mut server, NONE, NONE, *number)?;
         expect(alloc, &mut server, found.as_str(), *wanted)?;
     }
+    Ok(())
+}
+
+#[test]
+fn a_failed_write_asks_no_backend_again(rt: HostRuntime) -> Result<(), Fail> {
+    let alloc = rt.alloc();
+    let mut server = Server::new(alloc)?;
+    let source = MemSource::new(POST.to_vec(alloc)?, Vec::new(alloc));
+    let sink = MemSink::new(alloc, [0].to_vec(alloc)?);
+    let mut link = MemLink::new(source, sink, Vec::new(alloc));
+    let mut up = MemUpstream::new(alloc, Vec::new(alloc));
+    let found = server.serve(alloc, &mut link, &mut up)?;
+    assert_eq!(rt; found.as_str(), "200 Write|");
+    assert_eq!(rt; up.exchanges().len(), 1);
     Ok(())
 }

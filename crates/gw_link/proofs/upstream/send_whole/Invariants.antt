@@ -6,7 +6,7 @@ abbrev pub invariant-pieces : goal.invariant-pieces
 invariant-pieces g l = record {
   within : l.at ≤ length l.piece;
   sent : Sends (g.U.Upstream.exchanges l.fn.up) (take l.at l.piece) (g.U.Upstream.exchanges l.up);
-  connected : g.U.Upstream.connected l.up ≡ true;
+  at : g.U.Upstream.at l.up ≡ g.U.Upstream.at l.fn.up;
   later : g.U.Upstream.faults l.fn.up ≤ g.U.Upstream.faults l.up;
   goes : g.U.Upstream.becomes l.fn.up l.up;
   none : l.at ≡ 0 → l.up ≡ l.fn.up;

@@ -17,11 +17,13 @@ returns g c =
     record {
       moments = r.moments;
       after = g.C.Clock.moments c.lines.new.clock;
-      last = x.state;
-      lines = x.text;
       in_turn = r.in_turn;
-      runs = subst (λ (site : Site). Runs site 1 (lines_of c.args.input.now) r.moments start x.state x.text) c.in_ok-replay.ensures.site x.does_so;
-      text_is = c.from_vec.ensures ∙ ap (λ (v : Vec ℕ Global). v.items) c.into_bytes.ensures.value ∙ c.in_ok-end.ensures.text x.state x.keeps
-          ∙ ap (λ (t : List ℕ). t ++ totals_text x.state) (x.printed ∙ ap (λ (t : List ℕ). t ++ x.text) c.in_ok-replay.ensures.text);
-      refused_is = ap (nat_lt 0) (c.end.ensures.refused ∙ x.keeps.refused);
+      replay = record {
+        last = x.state;
+        lines = x.text;
+        runs = subst (λ (site : Site). Runs site 1 (lines_of c.args.input.now) r.moments start x.state x.text) c.in_ok-replay.ensures.site x.does_so;
+        text_is = c.from_vec.ensures ∙ ap (λ (v : Vec ℕ Global). v.items) c.into_bytes.ensures.value ∙ c.in_ok-end.ensures.text x.state x.keeps
+            ∙ ap (λ (t : List ℕ). t ++ totals_text x.state) (x.printed ∙ ap (λ (t : List ℕ). t ++ x.text) c.in_ok-replay.ensures.text);
+        refused_is = ap (nat_lt 0) (c.end.ensures.refused ∙ x.keeps.refused);
+      };
     }

@@ -14,7 +14,7 @@ invariant-pieces g l = record {
   took : (piece : List ℕ) × (Gives (g.K.Link.left l.fn.link) piece (g.K.Link.left l.link)
       × ((bytes : List ℕ) → IsFed l.fn.conn bytes → IsFed l.conn (bytes ++ piece))
       × ((p : Place) (bytes : List ℕ) (parts : List Part) (text : List ℕ) → IsAt l.fn.w p → StandsFor l.fn.conn p bytes parts text
-      → Took p l.fn.w l.w l.conn (bytes ++ piece) parts text
+      → Took (g.U.Upstream.refuses l.fn.up l.up) p l.fn.w l.w l.conn (bytes ++ piece) parts text
       (outside (g.K.Link.written l.fn.link) (g.U.Upstream.exchanges l.fn.up) (g.U.Upstream.faults l.fn.up))
       (outside (g.K.Link.written l.link) (g.U.Upstream.exchanges l.up) (g.U.Upstream.faults l.up)))
       × (l.taken ≡ length piece));

@@ -9,7 +9,7 @@ use Rattle.gw_replay.specs.Lines.{written_text}
 use Rattle.gw_replay.specs.Replays.{place_at}
 use Rattle.gw_replay.specs.States.{site_of}
 use Rattle.gw_replay.proofs.Keeping.{keeps_served}
-use Rattle.gw_replay.proofs.Serving.{Taken, client_after, door_there, is_at, met_longer, met_so, paired_so, pass_so, printed_all, rows_before, rows_longer, rows_so, serves_so, stands_so, state_after, text_after, worker_at, worker_seen, wrote_so}
+use Rattle.gw_replay.proofs.Serving.{Taken, backends_so, client_after, door_there, is_at, met_longer, met_so, paired_so, pass_so, printed_all, rows_before, rows_longer, rows_so, serves_so, stands_so, state_after, text_after, worker_at, worker_seen, wrote_so}
 use Rattle.gw_replay.proofs.replay.Replay.serve.Goals as goal
 
 pub take-requires-clause-door : goal.take-requires-clause-door
@@ -29,7 +29,7 @@ split_at-requires c =
     let v : Taken site c.args.piece.now s plain w c.take.new.worker c.take.new.conn c.in_ok-flow.flow c.no_bytes-link.result.sink.written c.take.new.link.sink.written
     c.args.self.now.backends c.take.new.backends = record {
       nothing = c.no_bytes-link.ensures.written;
-      same = keeps.backends;
+      told_so = keeps.backends;
       worker = worker_at c.args.self.now s c.args.client.now plain w keeps client c.index_mut-worker.ensures.value;
       seen = seen;
       held = c.in_ok-flow.ensures.held;
@@ -55,7 +55,7 @@ split_at-requires-2 c =
     let v : Taken site c.args.piece.now s plain w c.take.new.worker c.take.new.conn c.in_ok-flow.flow c.no_bytes-link.result.sink.written c.take.new.link.sink.written
     c.args.self.now.backends c.take.new.backends = record {
       nothing = c.no_bytes-link.ensures.written;
-      same = keeps.backends;
+      told_so = keeps.backends;
       worker = worker_at c.args.self.now s c.args.client.now plain w keeps client c.index_mut-worker.ensures.value;
       seen = seen;
       held = c.in_ok-flow.ensures.held;
@@ -75,7 +75,7 @@ returns-clause-served c = record {
       let v : Taken site c.args.piece.now s plain w c.take.new.worker c.take.new.conn c.in_ok-flow.flow c.no_bytes-link.result.sink.written c.take.new.link.sink.written
       c.args.self.now.backends c.take.new.backends = record {
         nothing = c.no_bytes-link.ensures.written;
-        same = keeps.backends;
+        told_so = keeps.backends;
         worker = worker_at c.args.self.now s c.args.client.now plain w keeps client c.index_mut-worker.ensures.value;
         seen = seen;
         held = c.in_ok-flow.ensures.held;
@@ -101,6 +101,7 @@ returns-clause-served c = record {
           statuses = c.push_statuses.new.statuses;
           text = c.push_end.new.text;
         }) s plain.worker c.take.new.worker (map (λ row. row.status) (rows_of place v.served.took.more)) keeps refl
+            (backends_so v c.in_ok-flow.ensures.becomes c.in_ok-flow.ensures.starved)
             (ap (λ (ws : List Worker). set ws c.args.client.now.worker c.take.new.worker) keeps.workers ∙ ap (λ (n : ℕ). set s.workers n c.take.new.worker) client.worker)
             (pass_so v)
             (c.in_ok-push_statuses.ensures ∙ ap (λ (l : List ℕ). l ++ map (λ row. row.status) c.split_at.result.1.now) keeps.statuses

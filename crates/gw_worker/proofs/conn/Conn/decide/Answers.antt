@@ -3,14 +3,13 @@ use Rattle.std.proofs.Common.{refl, sym, ◌≡◌}
 use Rattle.gw_answers.proofs.Left.{on_err}
 use Rattle.gw_worker.proofs.Deciding.{left_behind}
 use Rattle.gw_worker.proofs.Serving.{continues_by}
-use Rattle.gw_worker.specs.Steps.{handled_by}
-use Rattle.gw_worker.specs.Workers.{IsAt, IsLeftBy}
+use Rattle.gw_worker.specs.Workers.{IsAt, IsLeftBy, handled_by}
 use Rattle.gw_worker.specs.model.Sessions.{Place}
 use Rattle.gw_worker.proofs.conn.Conn.decide.Goals as goal
 
 pub returns-in_err-act-clause-err : goal.returns-in_err-act-clause-err
 returns-in_err-act-clause-err c =
-    let left : (p : Place) → IsAt c.args.w.now p → p.door ≡ c.args.self.now.door → IsLeftBy p c.args.w.now c.decide.new.self = λ p at door.
+    let left : (p : Place) → IsAt c.args.w.now p → p.door ≡ c.args.self.now.door → IsLeftBy p c.args.w.now c.decide.new.self c.args.request.now = λ p at door.
     left_behind p c.args.w.now c.decide.new.self c.args.request.now (c.in_ok-front.ensures.decides p at door) in
     on_err _ left
 

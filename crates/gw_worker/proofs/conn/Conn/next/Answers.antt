@@ -1,12 +1,15 @@
 -- By what comes next.
-use Rattle.std.proofs.Common.{◌+◌, ◌*◌, sym, ap, subst, ◌∙◌}
-use Rattle.gw_frames.specs.Inlets.{steps_left}
+use Rattle.std.proofs.Common.{◌+◌, ◌*◌, List, [], ◌++◌, map, refl, sym, ap, subst, ◌∙◌, append-nil}
+use Rattle.gw_answers.proofs.Left.{on_err}
+use Rattle.gw_frames.specs.Inlets.{StandsFor as InletStandsFor, steps_left}
+use Rattle.gw_frames.specs.model.Requests.{Step}
 use Rattle.gw_worker.proofs.Serving.{continues_alone, ended_again, ok_with, replied}
 use Rattle.gw_worker.specs.Conns.{turns_left, turns_of}
 use Rattle.gw_worker.specs.Turns.{Continues, IsReply, IsWrite, LeavesFewer}
 use Rattle.gw_worker.specs.declared.conn.Conn.{Conn}
 use Rattle.gw_worker.specs.declared.conn.Stage.{Stage}
 use Rattle.gw_worker.specs.declared.turn.Turn.TheVariants as turns
+use Rattle.gw_worker.specs.model.Sessions.{step_of}
 use Rattle.gw_worker.proofs.conn.Conn.next.Goals as goal
 
 pub returns-in-Reading-clause-fewer : goal.returns-in-Reading-clause-fewer
@@ -37,3 +40,11 @@ returns-in-Ended-clause-goes c = λ p bytes parts text at s.
 
 pub returns-in_ok-reply-in-Answered-clause-writes : goal.returns-in_ok-reply-in-Answered-clause-writes
 returns-in_ok-reply-in-Answered-clause-writes c = λ is. subst IsWrite (sym c.in_ok-reply-in-Answered.ensures.text) tt
+
+pub returns-in_err-reply-in-Answered-clause-err : goal.returns-in_err-reply-in-Answered-clause-err
+returns-in_err-reply-in-Answered-clause-err c = on_err c.from_residual.result (λ p bytes parts text at s. record {
+  steps = [];
+  inlet = subst (λ (k : Conn). InletStandsFor k.inlet bytes (map step_of parts ++ [])) (sym c.in_err-reply-in-Answered.ensures.err)
+      (subst (λ (l : List Step). InletStandsFor c.args.self.now.inlet bytes l) (sym (append-nil (map step_of parts))) s.inlet);
+  left = (refl, refl);
+})

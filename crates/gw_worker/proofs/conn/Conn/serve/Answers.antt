@@ -1,6 +1,8 @@
 -- One turn more.
 use Rattle.std.proofs.Common.{◌≡◌, ℕ, List, ◌++◌, Some, Ok, ap, refl, rules, ◌∙◌, arith}
 use Rattle.gw_answers.proofs.Left.{on_err}
+use Rattle.gw_link.specs.declared.order.UpstreamCall.{UpstreamCall}
+use Rattle.gw_text.specs.model.Addresses.{Socket}
 use Rattle.gw_worker.proofs.Deciding.{begins_itself}
 use Rattle.gw_worker.proofs.Going.{begins_then, served_then, still_at, took_and_broke, took_then}
 use Rattle.gw_worker.proofs.Stepping.{fed_on, goes_itself, goes_then}
@@ -14,7 +16,7 @@ use Rattle.gw_worker.proofs.conn.Conn.serve.Goals as goal
 
 pub turns-init : goal.turns-init
 turns-init g c = record {
-  took = λ p bytes parts text at s. took_none p c.args.w.now c.args.self.now bytes parts text _ s;
+  took = λ p bytes parts text at s. took_none (g.U.Upstream.refuses c.args.up.now c.args.up.now) p c.args.w.now c.args.self.now bytes parts text _ s;
   settled = c.requires.settled;
   inlet = goes_itself c.args.self.now.inlet c.args.self.now.inlet refl;
   over = refl;
@@ -30,12 +32,18 @@ turns-init g c = record {
 
 pub returns-in_err-flow-clause-broke : goal.returns-in_err-flow-clause-broke
 returns-in_err-flow-clause-broke g c =
+    let refuses = g.U.Upstream.refuses in
+    let first = c.args.up.now in
+    let middle = c.turns.up in
+    let last = c.turn.new.up in
+    let still = λ (call : UpstreamCall) (to : Socket) (refused : refuses first middle call to). g.met.U.Upstream.refuses_still first middle last call to refused c.turn.ensures.becomes in
+    let later = λ (call : UpstreamCall) (to : Socket) (refused : refuses middle last call to). g.met.U.Upstream.refuses_later first middle last call to c.turns.invariant.becomes refused in
     let o : Outside = outside (g.K.Link.written c.args.link.now) (g.U.Upstream.exchanges c.args.up.now) (g.U.Upstream.faults c.args.up.now) in
     let o' : Outside = outside (g.K.Link.written c.turn.new.link) (g.U.Upstream.exchanges c.turn.new.up) (g.U.Upstream.faults c.turn.new.up) in
     let broke : (p : Place) (bytes : List ℕ) (parts : List Part) (text : List ℕ) → IsAt c.args.w.now p → StandsFor c.args.self.now p bytes parts text
-    → BrokeOff p c.args.w.now c.turn.new.w c.turn.new.self bytes parts text o o' = λ p bytes parts text at s.
+    → BrokeOff (refuses first last) p c.args.w.now c.turn.new.w c.turn.new.self bytes parts text o o' = λ p bytes parts text at s.
     let t = c.turns.invariant.took p bytes parts text at s in
-    took_and_broke p c.args.w.now c.turns.w c.turn.new.w c.turns.self c.turn.new.self bytes bytes parts text o _ o' t
+    took_and_broke (refuses first middle) (refuses middle last) (refuses first last) p c.args.w.now c.turns.w c.turn.new.w c.turns.self c.turn.new.self bytes bytes parts text o _ o' still later t
     (c.in_err-flow.ensures.broke p bytes (parts ++ t.more) (text ++ t.wrote) (still_at p c.args.w.now c.turns.w c.turns.invariant.fixed at) t.stands) in
     on_err _ broke
 
@@ -44,8 +52,14 @@ returns-in_err-flow-clause-inlet g c = goes_then c.args.self.now.inlet c.turns.s
 
 pub returns-in-Some-clause-served : goal.returns-in-Some-clause-served
 returns-in-Some-clause-served g c = λ p bytes parts text at s.
+    let refuses = g.U.Upstream.refuses in
+    let first = c.args.up.now in
+    let middle = c.turns.up in
+    let last = c.turn.new.up in
+    let still = λ (call : UpstreamCall) (to : Socket) (refused : refuses first middle call to). g.met.U.Upstream.refuses_still first middle last call to refused c.turn.ensures.becomes in
+    let later = λ (call : UpstreamCall) (to : Socket) (refused : refuses middle last call to). g.met.U.Upstream.refuses_later first middle last call to c.turns.invariant.becomes refused in
     let t = c.turns.invariant.took p bytes parts text at s in
-    served_then p c.args.w.now c.turns.w c.turn.new.w c.turns.self c.turn.new.self bytes bytes _ parts text _ _ _ c.in-Some.flow t
+    served_then (refuses first middle) (refuses middle last) (refuses first last) p c.args.w.now c.turns.w c.turn.new.w c.turns.self c.turn.new.self bytes bytes _ parts text _ _ _ c.in-Some.flow still later t
     (rw c.in-Some.is at (c.in_ok-flow.ensures.took p bytes (parts ++ t.more) (text ++ t.wrote) (still_at p c.args.w.now c.turns.w c.turns.invariant.fixed at) t.stands))
 
 pub returns-in-Some-clause-unfinished : goal.returns-in-Some-clause-unfinished
@@ -63,20 +77,27 @@ turns-smaller g c =
     (fed_on c.args.self.now c.turns.self c.requires.fed.0 c.turns.invariant.inlet c.requires.fed.1)
 
 pub turns-preserved : goal.turns-preserved
-turns-preserved g c = record {
-  took = λ p bytes parts text at s.
-      let t = c.turns.invariant.took p bytes parts text at s in
-      let u = c.in_ok-flow.ensures.took p bytes (parts ++ t.more) (text ++ t.wrote) (still_at p c.args.w.now c.turns.w c.turns.invariant.fixed at) t.stands in
-      took_then p c.args.w.now c.turns.w c.turn.new.w c.turns.self c.turn.new.self bytes bytes parts text _ _ _ t u.took;
-  settled = c.in_ok-flow.ensures.settled;
-  inlet = goes_then c.args.self.now.inlet c.turns.self.inlet c.turn.new.self.inlet c.turns.invariant.inlet c.turn.ensures.inlet;
-  over = c.turn.ensures.over ∙ c.turns.invariant.over;
-  unread = search rules;
-  link_later = omega (arith, c.turns.invariant.link_later, c.turn.ensures.link_later);
-  up_later = omega (arith, c.turns.invariant.up_later, c.turn.ensures.up_later);
-  becomes = g.met.U.Upstream.becomes_then _ _ _ c.turns.invariant.becomes c.turn.ensures.becomes;
-  later = begins_then _ _ _ c.turns.invariant.later c.turn.ensures.later;
-  fixed = c.turn.ensures.fixed ∙ c.turns.invariant.fixed;
-  held = c.turn.ensures.held ∙ c.turns.invariant.held;
-  door = c.turn.ensures.door ∙ c.turns.invariant.door;
-}
+turns-preserved g c =
+    let refuses = g.U.Upstream.refuses in
+    let first = c.args.up.now in
+    let middle = c.turns.up in
+    let last = c.turn.new.up in
+    let still = λ (call : UpstreamCall) (to : Socket) (refused : refuses first middle call to). g.met.U.Upstream.refuses_still first middle last call to refused c.turn.ensures.becomes in
+    let later = λ (call : UpstreamCall) (to : Socket) (refused : refuses middle last call to). g.met.U.Upstream.refuses_later first middle last call to c.turns.invariant.becomes refused in
+    record {
+      took = λ p bytes parts text at s.
+          let t = c.turns.invariant.took p bytes parts text at s in
+          let u = c.in_ok-flow.ensures.took p bytes (parts ++ t.more) (text ++ t.wrote) (still_at p c.args.w.now c.turns.w c.turns.invariant.fixed at) t.stands in
+          took_then (refuses first middle) (refuses middle last) (refuses first last) p c.args.w.now c.turns.w c.turn.new.w c.turns.self c.turn.new.self bytes bytes parts text _ _ _ still later t u.took;
+      settled = c.in_ok-flow.ensures.settled;
+      inlet = goes_then c.args.self.now.inlet c.turns.self.inlet c.turn.new.self.inlet c.turns.invariant.inlet c.turn.ensures.inlet;
+      over = c.turn.ensures.over ∙ c.turns.invariant.over;
+      unread = search rules;
+      link_later = omega (arith, c.turns.invariant.link_later, c.turn.ensures.link_later);
+      up_later = omega (arith, c.turns.invariant.up_later, c.turn.ensures.up_later);
+      becomes = g.met.U.Upstream.becomes_then _ _ _ c.turns.invariant.becomes c.turn.ensures.becomes;
+      later = begins_then _ _ _ c.turns.invariant.later c.turn.ensures.later;
+      fixed = c.turn.ensures.fixed ∙ c.turns.invariant.fixed;
+      held = c.turn.ensures.held ∙ c.turns.invariant.held;
+      door = c.turn.ensures.door ∙ c.turns.invariant.door;
+    }

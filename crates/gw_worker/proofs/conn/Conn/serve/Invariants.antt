@@ -12,7 +12,7 @@ use Rattle.gw_worker.proofs.conn.Conn.serve.Given as goal
 abbrev pub invariant-turns : goal.invariant-turns
 invariant-turns g l = record {
   took : (p : Place) (bytes : List ℕ) (parts : List Part) (text : List ℕ) → IsAt l.fn.w p → StandsFor l.fn.self p bytes parts text
-      → Took p l.fn.w l.w l.self bytes parts text
+      → Took (g.U.Upstream.refuses l.fn.up l.up) p l.fn.w l.w l.self bytes parts text
       (outside (g.K.Link.written l.fn.link) (g.U.Upstream.exchanges l.fn.up) (g.U.Upstream.faults l.fn.up))
       (outside (g.K.Link.written l.link) (g.U.Upstream.exchanges l.up) (g.U.Upstream.faults l.up));
   settled : IsSettled l.self.stage;

@@ -1,9 +1,11 @@
 -- What each step comes to.
-use Rattle.std.proofs.Common.{◌<◌, ◌≤◌, refl, sym, ap, subst, IfOk, Result}
-use Rattle.gw_frames.specs.Inlets.{steps_left}
+use Rattle.std.proofs.Common.{◌<◌, ◌≤◌, List, [], ◌∷◌, ◌++◌, map, refl, sym, ap, subst, IfOk, Result, append-nil, inl}
+use Rattle.std.proofs.lemmas.Result.{on_err_weaker}
+use Rattle.gw_answers.proofs.Left.{on_err}
+use Rattle.gw_frames.specs.Inlets.{StandsFor as InletStandsFor, steps_left}
 use Rattle.gw_frames.specs.declared.inlet.Inlet.{Inlet}
 use Rattle.gw_frames.specs.declared.step.Step.TheVariants as steps
-use Rattle.gw_frames.specs.model.Requests.{a_break, a_continue, a_refusal, an_ask, an_end}
+use Rattle.gw_frames.specs.model.Requests.{Step, a_break, a_continue, a_refusal, an_ask, an_end}
 use Rattle.gw_worker.proofs.Serving.{continues_alone, continues_with, ok_with}
 use Rattle.gw_worker.proofs.Stepping.{Steps, active_no_need, behind_step, end_leaves, end_no_need, goes_by_same, goes_by_step, leaves_fewer, leaves_none, says_need, stands_still, still_open}
 use Rattle.gw_snap.specs.declared.fault.OpenFault.{OpenFault}
@@ -11,7 +13,7 @@ use Rattle.gw_worker.specs.Turns.{IsActive}
 use Rattle.gw_worker.specs.declared.conn.Conn.{Conn}
 use Rattle.gw_worker.specs.declared.turn.Turn.{Turn}
 use Rattle.gw_worker.specs.declared.turn.Turn.TheVariants as turns
-use Rattle.gw_worker.specs.model.Sessions.{a_close, a_cut, a_refused, a_wait}
+use Rattle.gw_worker.specs.model.Sessions.{a_close, a_cut, a_refused, a_wait, step_of}
 use Rattle.gw_worker.proofs.conn.Conn.step.Goals as goal
 
 pub returns-in_err-next-clause-inlet : goal.returns-in_err-next-clause-inlet
@@ -122,3 +124,34 @@ returns-in-Truncated-clause-fewer c = λ bytes fed. end_leaves _ c.end_by-in-Tru
 
 pub returns-in-Truncated-clause-inlet : goal.returns-in-Truncated-clause-inlet
 returns-in-Truncated-clause-inlet c = goes_by_step c.args.self.now.inlet c.next.new.self c.end_by-in-Truncated.new.self.inlet _ c.in_ok-next.ensures.stands c.end_by-in-Truncated.ensures.inlet
+
+pub returns-in_err-next-clause-err : goal.returns-in_err-next-clause-err
+returns-in_err-next-clause-err c = on_err c.from_residual.result (λ p bytes parts text at s. record {
+  steps = [];
+  inlet = subst (λ (l : List Step). InletStandsFor c.next.new.self bytes l) (sym (append-nil (map step_of parts))) (c.in_err-next.ensures.err bytes (map step_of parts) s.inlet);
+  left = (refl, refl);
+})
+
+pub returns-in_err-announce-in-Continue-clause-err : goal.returns-in_err-announce-in-Continue-clause-err
+returns-in_err-announce-in-Continue-clause-err c = on_err c.from_residual-in_err-announce-in-Continue.result (λ p bytes parts text at s. record {
+  steps = a_continue ∷ [];
+  inlet = subst (λ (k : Conn). InletStandsFor k.inlet bytes (map step_of parts ++ a_continue ∷ [])) (sym c.in_err-announce-in-Continue.ensures.same)
+      (behind_step c.args.self.now c.next.new.self steps.Continue a_continue p bytes parts text (rw c.in-Continue.is at c.in_ok-next.ensures.stands) refl c.requires.reading s).inlet;
+  left = (refl, refl);
+})
+
+pub returns-in-Ask-clause-err : goal.returns-in-Ask-clause-err
+returns-in-Ask-clause-err c = on_err_weaker c.decide.result (λ left p bytes parts text at s. record {
+  steps = an_ask c.in-Ask.request ∷ [];
+  inlet = subst (λ (k : Inlet). InletStandsFor k bytes (map step_of parts ++ an_ask c.in-Ask.request ∷ [])) (sym c.decide.ensures.inlet)
+      (behind_step c.args.self.now c.next.new.self (steps.Ask c.in-Ask.request) (an_ask c.in-Ask.request) p bytes parts text (rw c.in-Ask.is at c.in_ok-next.ensures.stands) refl c.requires.reading s).inlet;
+  left = record { left = left p at (sym s.door); once = inl refl };
+}) c.decide.ensures.err
+
+pub returns-in_err-refuse-in-Bad-clause-err : goal.returns-in_err-refuse-in-Bad-clause-err
+returns-in_err-refuse-in-Bad-clause-err c = on_err c.from_residual-in_err-refuse-in-Bad.result (λ p bytes parts text at s. record {
+  steps = a_refusal c.in-Bad.code ∷ [];
+  inlet = subst (λ (k : Conn). InletStandsFor k.inlet bytes (map step_of parts ++ a_refusal c.in-Bad.code ∷ [])) (sym c.in_err-refuse-in-Bad.ensures.err)
+      (behind_step c.args.self.now c.next.new.self (steps.Bad c.in-Bad.code) (a_refusal c.in-Bad.code) p bytes parts text (rw c.in-Bad.is at c.in_ok-next.ensures.stands) refl c.requires.reading s).inlet;
+  left = (refl, refl);
+})
