@@ -68,7 +68,7 @@ abbrev pub fault_of : Action → Option FaultName
 fault_of (replies code location fault) = fault
 fault_of (forwards to bytes plan) = None
 
--- The row that serves a request sends it nowhere: its rule has no backendRefs, or only such of weight 0.
+-- The row that serves a request doesn't redirect it and sends it nowhere: its rule has no backendRefs, or only such of weight 0.
 abbrev pub IsSentNowhere : Rows → Request → Type 0
 IsSentNowhere rows q = (row : Row) × (verdict_of rows q ≡ nothing row) × (sends_nothing row.plan ≡ true)
 

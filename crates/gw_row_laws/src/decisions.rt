@@ -14,7 +14,8 @@ pub fn no_endpoints_where_none_is_ready()
     ensures { OfEachDoor NamesNoEndpoints }
 {}
 
-/// NoBackend is named exactly where the rule has no backendRefs, or only such of weight 0.
+/// NoBackend is named exactly where the row that serves the request doesn't redirect it, and its rule has no backendRefs, or only such
+/// of weight 0.
 #[tactic(auto, using(crate::proofs::Faults::no_backend_exactly))]
 pub fn no_backend_where_nothing_is_sent()
     ensures { OfEachDoor NamesNoBackend }

@@ -10,6 +10,4 @@ pub use decisions::{
     decisions_go_by_the_backend_drawn, no_backend_where_nothing_is_sent,
     no_endpoints_where_none_is_ready,
 };
-pub use listeners::{
-    served_listeners_differ_in_hostname, served_listeners_differ_in_specificity,
-};
+pub use listeners::{served_listeners_differ_in_hostname, served_listeners_differ_in_specificity};
