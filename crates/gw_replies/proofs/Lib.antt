@@ -1,3 +1,4 @@
+pub mod Finding
 pub mod HeadBytes
 pub mod Hops
 pub mod Lengths

@@ -1,4 +1,5 @@
 pub mod Extents
 pub mod Kinds
+pub mod Options
 pub mod Replies
 pub mod model

@@ -1,9 +1,9 @@
-ghost use Rattle.std.specs.Prelude.{◌≡◌, ◌++◌, ℕ, List, map, IfOk};
+ghost use Rattle.std.specs.Prelude.{◌≡◌, ◌++◌, ℕ, List, filter, map, not, IfOk};
 ghost use Rattle.std.specs.List.{list_any};
 ghost use Rattle.gw_text.specs.model.Fields.{same_field_name};
-ghost use Rattle.gw_replies.specs.model.Hops.{connection_options, passed_back, passed_on, without};
+ghost use Rattle.gw_replies.specs.model.Hops.{passed_back, passed_on, without};
 
-use gw_messages::field::has_element;
+use crate::options::Options;
 use gw_text::{Field, Fields, NoMemory, Text};
 use std::alloc::Global;
 
@@ -52,22 +52,32 @@ pub fn passed_back(alloc: Global, fields: &Fields) -> Result<Fields, NoMemory>
 fn without(alloc: Global, names: &[&str], fields: &[Field]) -> Result<Fields, NoMemory>
     ensures { IfOk result (λ kept. kept ≡ without (map (λ n. n.now) names.now) fields.now) }
 {
+    let options = Options::of(alloc, fields)?;
+    others(alloc, names, &options, fields)
+}
+
+// The fields that have none of these names, and none of these options.
+fn others(
+    alloc: Global,
+    names: &[&str],
+    options: &Options<'_>,
+    fields: &[Field],
+) -> Result<Fields, NoMemory>
+    ensures { IfOk result (λ kept. kept ≡ filter (λ f. not (list_any (same_field_name f.name) (map (λ n. n.now) names.now ++ options.now))) fields.now) }
+{
     let mut kept = Vec::new(alloc);
     'fields: for field in fields {
-        if !is_hop(field.name.bytes(), names, fields) {
+        if !is_hop(field.name.bytes(), names, options) {
             kept.push(field.copy(alloc)?)?;
         }
     }
     Ok(Fields::from_vec(kept))
 }
 
-fn is_hop(name: &[u8], names: &[&str], fields: &[Field]) -> bool
-    ensures { result ≡ list_any (same_field_name name.now) (map (λ n. n.now) names.now ++ connection_options fields.now) }
+fn is_hop(name: &[u8], names: &[&str], options: &Options<'_>) -> bool
+    ensures { result ≡ list_any (same_field_name name.now) (map (λ n. n.now) names.now ++ options.now) }
 {
-    if is_among(name, names) {
-        return true;
-    }
-    has_element(fields, b"connection", name)
+    is_among(name, names) || options.has(name)
 }
 
 fn is_among(name: &[u8], names: &[&str]) -> bool

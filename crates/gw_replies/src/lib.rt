@@ -1,4 +1,4 @@
-// Responses out of the bytes of a backend, and the bytes of messages.
+// The bytes of the messages that are sent, requests and responses; and responses out of the bytes of a backend.
 #![tactic(auto)]
 
 mod extent;
@@ -7,6 +7,7 @@ mod head;
 mod hop;
 mod kind;
 mod length;
+mod options;
 mod reader;
 mod response;
 mod step;
