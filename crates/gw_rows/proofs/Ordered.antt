@@ -1,9 +1,9 @@
 -- Precedence is a total order, and tells all rows of a listener apart.
-use Rattle.std.proofs.Common.{◌≡◌, refl, sym, ap, subst, ℕ, ◌<◌, Bool, List, [], ◌∷◌, fold, length, is_some, true≢false}
+use Rattle.std.proofs.Common.{◌≡◌, ◌∙◌, refl, sym, ap, subst, ℕ, ◌<◌, Bool, List, [], ◌∷◌, fold, length, is_some, true≢false}
 use Rattle.std.specs.Cmp.{IsTotalOrder, back_total, bool_cmp_total, int_cmp_total, nat_cmp_total, on_total, ranked, then_total}
 use Rattle.std.specs.Cmp.Lexicographic.{nat_list_cmp_total}
 use Rattle.std.specs.List.{AllByRecursion}
-use Rattle.std.specs.Ordering.{MatchOrdering, is_eq, nat_cmp, then_cmp}
+use Rattle.std.specs.Ordering.{MatchOrdering, is_eq, nat_cmp, ordering_then, then_cmp}
 use Rattle.std.specs.declared.cmp.Ordering.{Ordering}
 use Rattle.std.specs.declared.cmp.Ordering.TheVariants.{Less, Equal, Greater}
 use Rattle.gw_rows.specs.model.Fitting.{counted_headers, counted_query_params}
@@ -98,3 +98,18 @@ one_row a b same e = by (undecided parts (λ (x y : Row). Equal) a b e).1
       place = equal_numbers a.place b.place place;
       host_place = equal_numbers a.host_place b.host_place host_place;
     }
+
+-- what decides where a further part is asked for only if nothing is decided yet
+pub then_first : {P : Type 0} (before result part : Ordering) → MatchOrdering before (result ≡ Less) P (result ≡ Greater) → (P → result ≡ part) → result ≡ ordering_then before part
+then_first Less result part is asked = is
+then_first Equal result part is asked = asked is
+then_first Greater result part is asked = is
+
+-- where nothing is decided behind a further part, nothing was before it, and it was asked for
+pub tied_before : (P : Type 0) (before result : Ordering) → MatchOrdering before (result ≡ Less) P (result ≡ Greater) → result ≡ Equal → before ≡ Equal
+tied_before P Less result is tied = sym is ∙ tied
+tied_before P Equal result asked tied = refl
+tied_before P Greater result is tied = sym is ∙ tied
+
+pub asked_for : (P : Type 0) (before result : Ordering) → MatchOrdering before (result ≡ Less) P (result ≡ Greater) → before ≡ Equal → P
+asked_for P before result is tied = subst (λ o. MatchOrdering o (result ≡ Less) P (result ≡ Greater)) tied is

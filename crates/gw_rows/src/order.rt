@@ -86,17 +86,17 @@ pub fn precedence(a: &Row, b: &Row) -> Ordering
     ensures one { result ≡ Equal → rules.AreOneRow a.now b.now }
 {
     most(precise_characters(a), precise_characters(b))
-        .then(most(hostname_characters(a), hostname_characters(b)))
-        .then(having(is_exact(a), is_exact(b)))
-        .then(most(path_characters(a), path_characters(b)))
-        .then(having(a.test.method.is_some(), b.test.method.is_some()))
-        .then(most(header_matches(a), header_matches(b)))
-        .then(most(query_matches(a), query_matches(b)))
-        .then(a.created.cmp(&b.created))
-        .then(by_key(a, b))
-        .then(a.rule.cmp(&b.rule))
-        .then(a.place.cmp(&b.place))
-        .then(a.host_place.cmp(&b.host_place))
+        .then_with(|| most(hostname_characters(a), hostname_characters(b)))
+        .then_with(|| having(is_exact(a), is_exact(b)))
+        .then_with(|| most(path_characters(a), path_characters(b)))
+        .then_with(|| having(a.test.method.is_some(), b.test.method.is_some()))
+        .then_with(|| most(header_matches(a), header_matches(b)))
+        .then_with(|| most(query_matches(a), query_matches(b)))
+        .then_with(|| a.created.cmp(&b.created))
+        .then_with(|| by_key(a, b))
+        .then_with(|| a.rule.cmp(&b.rule))
+        .then_with(|| a.place.cmp(&b.place))
+        .then_with(|| a.host_place.cmp(&b.host_place))
 }
 
 /// Whether `a` stands before `b`.
