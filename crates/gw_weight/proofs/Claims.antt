@@ -1,5 +1,5 @@
 -- The pick in numbers, and what it keeps.
-use Rattle.std.proofs.Common.{◌≡◌, ◌≢◌, ℕ, ◌+◌, ◌*◌, ◌<◌, ◌≤◌, Bool, true, false, cond, inl, inr, List, [], ◌∷◌, length, sum, below_more, get_or, refl, sym, ap, subst, ◌∙◌, eqb, arith, suc, zero, Some, None, add-zero, mul-zero, ◌^◌}
+use Rattle.std.proofs.Common.{◌≡◌, ◌≢◌, ℕ, ◌+◌, ◌*◌, ◌<◌, ◌≤◌, Bool, true, false, cond, inl, inr, List, [], ◌∷◌, length, sum, below_more, get_or, refl, sym, ap, subst, ◌∙◌, true≢false, eqb, arith, suc, zero, Some, None, add-zero, mul-zero, ◌^◌}
 use Rattle.std.proofs.lemmas.Bool.{and_from, and_parts, cases_eq, cases_lt, eq-eqb, eqb-false, ne_eqb}
 use Rattle.std.proofs.lemmas.Int.{ints}
 use Rattle.std.proofs.lemmas.List.{get_or-set_same, get_or-set_other, get_or-replicate, get_or_past, length-set, length-replicate}
@@ -9,6 +9,7 @@ use Rattle.std.proofs.Math.Nat.{lt_of_mul-lt-mul_right, mul-le-mul_right}
 use Rattle.std.specs.Prelude.{ℤ, pos, ◌-ℤ◌, ◌≤ℤ◌, ◌<ℤ◌, int_le}
 use Rattle.std.specs.List.{find, list_all, range_with_len}
 use Rattle.gw_text.specs.model.Picks.{Shares, claim, pick_after, pick, counted, zeros, after_pick, IsKept}
+use Rattle.gw_weight.specs.Fair.{IsFairPick}
 
 sum-cons : (x : ℕ) (xs : List ℕ) → sum (x ∷ xs) ≡ x + sum xs
 sum-cons x xs = sum_by-cons (λ y. y) x xs
@@ -323,3 +324,15 @@ after_pick-IsKept ws ns i kept e =
       | inr unfinished ↦ subst (IsKept ws) (sym (after_pick-counted ws ns i unfinished))
           (counted-IsKept ws ns i kept (pick-Picked ws (sum ns) (λ j. get_or ns j 0) i e) unfinished)
     ]
+
+-- a pick over numbers that are kept is fair
+pub fair-pick : (ws ns : List ℕ) (i : ℕ) → IsKept ws ns → pick ws ns ≡ Some i → IsFairPick ws ns (after_pick ws ns (Some i)) (Some i)
+fair-pick ws ns i kept e =
+    let picked = pick-Picked ws (sum ns) (λ j. get_or ns j 0) i e in
+    let positive : 0 < sum ws = picked.positive in
+    record {
+      none = ((λ none. absurd (true≢false none)), (λ none. absurd (omega arith)));
+      within = picked.within;
+      kept = after_pick-IsKept ws ns i kept e;
+      round = counted-full ws ns i kept picked;
+    }

@@ -26,7 +26,7 @@ Rounds-start ws picks = record {
   all = let none : sum (zeros ws) ≡ 0 = sum-zeros ws in omega arith;
 }
 
-drawn-more : (ws picks : List ℕ) (k : ℕ) → k < length picks → drawn_after ws (take (k + 1) picks) ≡ after_pick ws (drawn_after ws (take k picks)) (Some (get_or picks k 0))
+pub drawn-more : (ws picks : List ℕ) (k : ℕ) → k < length picks → drawn_after ws (take (k + 1) picks) ≡ after_pick ws (drawn_after ws (take k picks)) (Some (get_or picks k 0))
 drawn-more ws picks k l = fold_more (λ drawn i. after_pick ws drawn (Some i)) (zeros ws) picks k 0 l
 
 times-more : (picks : List ℕ) (k j : ℕ) → k < length picks → times picks (k + 1) j ≡ times picks k j + cond (eqb (get_or picks k 0) j) 1 0

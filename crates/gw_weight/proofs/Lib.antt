@@ -1,3 +1,4 @@
 pub mod Claims
 pub mod Fairness
+pub mod Equal
 pub mod Entries

@@ -1,3 +1,4 @@
 pub mod Books
+pub mod Equal
 pub mod Fair
 pub mod Inside

@@ -11,6 +11,7 @@ use crate::choice::{Choice, ask, copy_of, empty_choice};
 use gw_text::{Key, NoMemory};
 use indexmap::IndexMap;
 use std::alloc::Global;
+use std::hash::Hash;
 use std::marker::Model;
 
 const MOST_CHOICES: usize = 4096;
@@ -27,13 +28,13 @@ pub struct Book {
 impl Model for Book {
     ghost use Rattle.std.specs.Prelude.{List, map, ℕ};
     ghost use Rattle.gw_text.specs.model.Picks.{Choice as Plain};
-    ghost use Rattle.gw_weight.specs.Books.{entry_of, IsBookOf};
+    ghost use Rattle.gw_weight.specs.Books.{choice_of, entry_of, HasRoomFor, IsBookOf};
 
     ghost Value = { List (Plain × List ℕ) };
 
-    ghost view = { λ b. map entry_of b.shares.entries };
+    ghost view = { λ b. map (entry_of choice_of) b.shares.entries };
 
-    ghost invariant = { λ b. IsBookOf b.shares.entries b.asked };
+    ghost invariant = { λ b. IsBookOf choice_of (HasRoomFor b.asked) b.shares.entries };
 }
 
 impl Book {
@@ -86,12 +87,12 @@ fn draw_at(shares: &mut IndexMap<Choice, Shares>, place: usize) -> Option<usize>
     shares[place].next()
 }
 
-fn make_room(shares: &mut IndexMap<Choice, Shares>)
-    ensures room { map entry_of shares.new.entries ≡ (if nat_lt (length shares.old.entries) 4096 then map entry_of shares.old.entries else []) }
-    ensures kept { (asked : Choice) → IsBookOf shares.old.entries asked → IsBookOf shares.new.entries asked }
+/// A map of as many choices as a book may hold is emptied, so that a new one has room.
+pub fn make_room<C: Eq + Hash + Drop, S: Drop>(choices: &mut IndexMap<C, S>)
+    ensures { choices.new.entries ≡ (if nat_lt (length choices.old.entries) 4096 then choices.old.entries else []) }
 {
-    if shares.len() >= MOST_CHOICES {
-        shares.clear();
+    if choices.len() >= MOST_CHOICES {
+        choices.clear();
     }
 }
 
@@ -103,12 +104,13 @@ fn draw_new(
 ) -> Result<Option<usize>, NoMemory>
     requires { length choice.now.weights.items * sum choice.now.weights.items < 2 ^ 126 }
     ensures pick { IfOk result (λ picked. picked ≡ pick choice.now.weights.items (zeros choice.now.weights.items)) }
-    ensures after { OnOk result (map entry_of shares.new.entries ≡ with_numbers (choice_of choice.now)
+    ensures after { OnOk result (map (entry_of choice_of) shares.new.entries ≡ with_numbers (choice_of choice.now)
         (after_pick choice.now.weights.items (zeros choice.now.weights.items) (pick choice.now.weights.items (zeros choice.now.weights.items)))
-        (map entry_of shares.old.entries)) }
+        (map (entry_of choice_of) shares.old.entries)) }
     ensures fair { IfOk result (λ picked. IsFairPick choice.now.weights.items (zeros choice.now.weights.items)
         (after_pick choice.now.weights.items (zeros choice.now.weights.items) picked) picked) }
-    ensures kept { (asked : Choice) → IsBookOf shares.old.entries asked → HasRoomFor asked (choice_of choice.now) → OnOk result (IsBookOf shares.new.entries asked) }
+    ensures kept { (asked : Choice) → IsBookOf choice_of (HasRoomFor asked) shares.old.entries → HasRoomFor asked (choice_of choice.now)
+        → OnOk result (IsBookOf choice_of (HasRoomFor asked) shares.new.entries) }
     ensures err { OnErr result (shares.new.entries ≡ shares.old.entries) }
 {
     let mut counted = Shares::new(alloc, choice.weights.as_slice())?;

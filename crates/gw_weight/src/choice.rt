@@ -52,7 +52,8 @@ pub fn copy_of(alloc: Global, choice: &Choice) -> Result<Choice, NoMemory>
     })
 }
 
-fn refill<T: Copy + Drop>(list: &mut Vec<T>, items: &[T]) -> Result<(), NoMemory>
+/// Puts these in place of what the list holds.
+pub fn refill<T: Copy + Drop>(list: &mut Vec<T>, items: &[T]) -> Result<(), NoMemory>
     ensures ok { OnOk result (list.new.items ≡ items.now) }
     ensures room { vec_capacity list.old ≤ vec_capacity list.new }
     ensures succeeds { length items.now ≤ vec_capacity list.old → IsOk result }

@@ -3,9 +3,14 @@
 
 mod book;
 mod choice;
+mod equal_book;
+mod equal_choice;
 mod rounds;
 mod shares;
+mod turns;
 
 pub use book::Book;
+pub use equal_book::EqualBook;
 pub use rounds::first_picks;
 pub use shares::{Shares, sum_of};
+pub use turns::{Turns, are_picked_in_turn};
