@@ -4,7 +4,7 @@ ghost use Rattle.gw_answers.specs.model.Decisions.{backend_choice, endpoint_choi
 
 use gw_rows::{Backend, Row};
 use gw_text::{Key, NoMemory, Socket};
-use gw_weight::{Book, sum_of};
+use gw_weight::{Book, EqualBook, sum_of};
 use std::alloc::Global;
 
 /// The most weights of a pick. No machine holds as many.
@@ -14,7 +14,7 @@ const MOST_WEIGHTS: usize = 4_294_967_295;
 #[derive(Drop)]
 pub struct Books {
     pub backends: Book,
-    pub endpoints: Book,
+    pub endpoints: EqualBook,
 }
 
 impl Books {
@@ -24,7 +24,7 @@ impl Books {
     {
         Books {
             backends: Book::new(alloc),
-            endpoints: Book::new(alloc),
+            endpoints: EqualBook::new(alloc),
         }
     }
 
@@ -52,7 +52,6 @@ impl Books {
     /// Picks the endpoint that is next.
     pub(crate) fn pick_endpoint(
         &mut self,
-        alloc: Global,
         backend: &Backend,
         sockets: &[Socket],
     ) -> Result<Option<Socket>, NoMemory>
@@ -60,12 +59,10 @@ impl Books {
         ensures after { OnOk result (self.new ≡ record self.old { endpoints = after_draw (endpoint_choice backend.now sockets.now) self.old.endpoints }) }
         ensures err { OnErr result ((self.new ≡ self.old) ⊎ (self.new ≡ record self.old { endpoints = [] })) }
     {
-        let weights = vec![in alloc; 1; sockets.len()]?;
-        let picked = draw(
-            &mut self.endpoints,
+        let picked = self.endpoints.draw(
             &backend.key,
             u64::from(backend.port),
-            weights.as_slice(),
+            sockets.len(),
         )?;
         Ok(item_at(sockets, picked).copied())
     }

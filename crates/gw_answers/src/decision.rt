@@ -169,7 +169,7 @@ fn by_state(
         BackendState::BadProtocol => (500, FaultName::UnsupportedProtocol),
         BackendState::NoEndpoints => (503, FaultName::NoEndpoints),
         BackendState::Ready(sockets) => {
-            let picked = books.pick_endpoint(alloc, backend, sockets.as_slice())?;
+            let picked = books.pick_endpoint(backend, sockets.as_slice())?;
             return by_endpoint(alloc, chosen, row, picked, request);
         }
     };

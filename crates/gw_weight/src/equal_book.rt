@@ -6,9 +6,9 @@ ghost use Rattle.gw_weight.specs.Books.{equal_choice_of, entry_of, HasRoomForKey
 ghost use Rattle.gw_weight.specs.Fair.{IsFairPick};
 ghost use Rattle.gw_weight.specs.declared.equal_choice.EqualChoice.{EqualChoice};
 
-use crate::Turns;
 use crate::book::make_room;
 use crate::equal_choice::{EqualChoice, ask, copy_of, empty_choice};
+use crate::turns::Turns;
 use gw_text::{Key, NoMemory};
 use indexmap::IndexMap;
 use std::alloc::Global;

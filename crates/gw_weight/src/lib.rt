@@ -13,4 +13,4 @@ pub use book::Book;
 pub use equal_book::EqualBook;
 pub use rounds::first_picks;
 pub use shares::{Shares, sum_of};
-pub use turns::{Turns, are_picked_in_turn};
+pub use turns::are_picked_in_turn;

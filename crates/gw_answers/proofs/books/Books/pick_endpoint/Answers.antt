@@ -10,15 +10,13 @@ returns-clause-pick c =
     let backend = c.args.backend.now in
     let key : c.backend.inside.key ≡ backend.key = search rules in
     let port : c.from.result ≡ backend.port = search rules in
-    let weights : c.as_slice.result.now ≡ replicate (length c.args.sockets.now) 1 = search rules in
     let found : c.copied.result ≡ option_copied c.item_at.result = search rules in
-    picked_by _ _ _ _ _ (endpoint_choice backend c.args.sockets.now) _ (found ∙ c.item_at.ensures) refl c.in_ok-picked.ensures.pick (choice_is key port weights)
+    picked_by _ _ _ _ _ (endpoint_choice backend c.args.sockets.now) _ (found ∙ c.item_at.ensures) refl c.in_ok-picked.ensures.pick (choice_is key port refl)
 
 pub returns-clause-after : goal.returns-clause-after
 returns-clause-after c =
     let backend = c.args.backend.now in
     let key : c.backend.inside.key ≡ backend.key = search rules in
     let port : c.from.result ≡ backend.port = search rules in
-    let weights : c.as_slice.result.now ≡ replicate (length c.args.sockets.now) 1 = search rules in
     ap (λ (book : List (Choice × List ℕ)). record c.args.self.now { endpoints = book })
-    (counted_by _ _ (endpoint_choice backend c.args.sockets.now) c.args.self.now.endpoints c.in_ok-picked.ensures.after (choice_is key port weights))
+    (counted_by _ _ (endpoint_choice backend c.args.sockets.now) c.args.self.now.endpoints c.in_ok-picked.ensures.after (choice_is key port refl))
