@@ -59,11 +59,9 @@ impl Books {
         ensures after { OnOk result (self.new ≡ record self.old { endpoints = after_draw (endpoint_choice backend.now sockets.now) self.old.endpoints }) }
         ensures err { OnErr result ((self.new ≡ self.old) ⊎ (self.new ≡ record self.old { endpoints = [] })) }
     {
-        let picked = self.endpoints.draw(
-            &backend.key,
-            u64::from(backend.port),
-            sockets.len(),
-        )?;
+        let picked = self
+            .endpoints
+            .draw(&backend.key, u64::from(backend.port), sockets.len())?;
         Ok(item_at(sockets, picked).copied())
     }
 }

@@ -1,6 +1,6 @@
-//! Weighted picks: those in turn, whole rounds, and a book of choices.
+//! Weighted picks: those in turn, whole rounds, and the books of choices.
 use gw_text::{Key, NoMemory};
-use gw_weight::{Book, Shares, first_picks};
+use gw_weight::{Book, EqualBook, Shares, first_picks};
 use std::alloc::Global;
 use std::test::*;
 
@@ -135,6 +135,50 @@ fn forgets_at_a_new_choice(rt: HostRuntime) -> Result<(), Fail> {
             book.draw(&key, *number, &[1, 1])? == Some(*pick),
             "{number}"
         );
+    }
+    Ok(())
+}
+
+// Draws of one book of equal weights, one after the other: a name, a number, how many weights there are, and the pick.
+const TURNS: &[(&str, u64, usize, Option<usize>)] = &[
+    ("a/bc", 80, 3, Some(0)),
+    ("a/bc", 80, 3, Some(1)),
+    ("ab/c", 80, 3, Some(0)),
+    ("a/bc", 81, 3, Some(0)),
+    ("a/bc", 80, 2, Some(0)),
+    ("a/bc", 80, 3, Some(2)),
+    ("a/bc", 80, 3, Some(0)),
+    ("a/bc", 80, 2, Some(1)),
+    ("a/bc", 80, 2, Some(0)),
+    ("a/bc", 80, 1, Some(0)),
+    ("a/bc", 80, 1, Some(0)),
+    ("a/bc", 80, 0, None),
+    ("a/bc", 80, 0, None),
+    ("a/bc", 80, 3, Some(1)),
+];
+
+#[test]
+fn equal_weights_take_turns(rt: HostRuntime) -> Result<(), Fail> {
+    let mut book = EqualBook::new(rt.alloc());
+    for (name, number, count, pick) in TURNS {
+        let key = Key::parse(rt.alloc(), name)?;
+        assert!(rt;
+            book.draw(&key, *number, *count)? == *pick,
+            "{name} {number} {count}"
+        );
+    }
+    Ok(())
+}
+
+#[test]
+fn forgets_turns_at_a_new_choice(rt: HostRuntime) -> Result<(), Fail> {
+    let mut book = EqualBook::new(rt.alloc());
+    let key = Key::parse(rt.alloc(), "default/s")?;
+    for number in 0..4096 {
+        assert!(rt; book.draw(&key, number, 2)? == Some(0));
+    }
+    for (number, pick) in AFTER_ALL {
+        assert!(rt; book.draw(&key, *number, 2)? == Some(*pick), "{number}");
     }
     Ok(())
 }

@@ -337,8 +337,8 @@ pub place-Drawn : {K : Type 0} (plain : K → Plain) (room : Plain → Type 0) (
     → (es new : List (K × Shares)) (place : ℕ) (d : K) (book : List (Plain × List ℕ)) (picked : Option ℕ)
     → position test (keys_of es) ≡ Some place → IsBookOf plain room es → map (entry_of plain) es ≡ book
     → IfSome (slice_get (values_of es) place) (λ s. (picked ≡ pick s.weights s.drawn)
-        × (new ≡ set_value_at es place (record s { drawn = after_pick s.weights s.drawn picked }))
-        × IsFairPick s.weights s.drawn (after_pick s.weights s.drawn picked) picked)
+    × (new ≡ set_value_at es place (record s { drawn = after_pick s.weights s.drawn picked }))
+    × IsFairPick s.weights s.drawn (after_pick s.weights s.drawn picked) picked)
     → IsDrawn K plain room c book new picked
 place-Drawn plain room c test agrees es new place d book picked found kept seen given =
     let f = position-Found plain c test agrees es place d found in

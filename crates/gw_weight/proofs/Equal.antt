@@ -13,7 +13,7 @@ use Rattle.std.specs.List.{slice_get}
 use Rattle.std.specs.Str.{bytes_eq}
 use Rattle.gw_text.specs.model.Picks.{ArePicks, IsKept, after_pick, claim, counted, drawn_after, pick, zeros}
 use Rattle.gw_weight.specs.Equal.{ArePickedInTurn, picked_before}
-use Rattle.gw_weight.proofs.Claims.{Leads, Leads-pick, after_pick-counted, after_pick-over}
+use Rattle.gw_weight.proofs.Claims.{Leads-pick, after_pick-counted, after_pick-over}
 use Rattle.gw_weight.proofs.Fairness.{drawn-more}
 
 abbrev ones : ℕ → List ℕ
@@ -91,14 +91,16 @@ turn-picked n k l =
           below _ _ (k + 1) n (omega arith) (claim-before n k j n (omega arith) one) here;
     })
 
+push-one : (k : ℕ) (rest : List ℕ) → ones k ++ 1 ∷ rest ≡ ones (k + 1) ++ rest
+push-one k rest = sym (append_assoc (ones k) (1 ∷ []) rest) ∙ ap (λ (l : List ℕ). l ++ rest) (replicate_more k 1)
+
 counted-turn : (n k : ℕ) → k < n → counted (picked_before n k) k ≡ picked_before n (k + 1)
 counted-turn n k l =
-        let rest = nones (n - (k + 1)) in
+    let rest = nones (n - (k + 1)) in
     let left : n - k ≡ suc (n - (k + 1)) = omega arith in
     let apart : picked_before n k ≡ ones k ++ 0 ∷ rest = ap (λ (m : ℕ). ones k ++ nones m) left in
     let number : get_or (picked_before n k) k 0 + 1 ≡ 1 = ap (λ (m : ℕ). m + 1) (get-left n k k (omega arith)) in
-    (λ t. set (apart t) k (number t)) ∙ set_at (ones k) 0 rest 1 k (length-ones k)
-    ∙ sym (append_assoc (ones k) (1 ∷ []) rest) ∙ ap (λ (l : List ℕ). l ++ rest) (replicate_more k 1)
+    (λ t. set (apart t) k (number t)) ∙ set_at (ones k) 0 rest 1 k (length-ones k) ∙ push-one k rest
 
 pub start-before : (n : ℕ) → zeros (ones n) ≡ picked_before n 0
 start-before n = let all : length (ones n) ≡ n - 0 = length-ones n ∙ omega arith in ap (λ (m : ℕ). nones m) all

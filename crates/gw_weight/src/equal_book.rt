@@ -1,4 +1,4 @@
-ghost use Rattle.std.specs.Prelude.{◌≡◌, ℕ, ◌<◌, List, [], ◌⊎◌, map, replicate, IsOk, IfOk, OnOk, OnErr, IsTrue};
+ghost use Rattle.std.specs.Prelude.{◌≡◌, ◌<◌, [], ◌⊎◌, map, replicate, IsOk, IfOk, OnOk, OnErr, IsTrue};
 ghost use Rattle.std.specs.Prelude.{slice_get, IfSome};
 ghost use Rattle.indexmap.specs.IndexMap.{index_map_len, set_value_at, values};
 ghost use Rattle.gw_text.specs.model.Picks.{after_pick, pick, with_numbers, zeros};
@@ -50,12 +50,7 @@ impl EqualBook {
     }
 
     /// The next pick of a choice of so many weights of 1, or none where it has none.
-    pub fn draw(
-        &mut self,
-        name: &Key,
-        number: u64,
-        count: usize,
-    ) -> Result<Option<usize>, NoMemory>
+    pub fn draw(&mut self, name: &Key, number: u64, count: usize) -> Result<Option<usize>, NoMemory>
         ensures pick { IfOk result (λ picked. picked ≡ drawn_from (record { name = name.now; number = number; weights = replicate count 1 }) self.old) }
         ensures after { OnOk result (self.new ≡ after_draw (record { name = name.now; number = number; weights = replicate count 1 }) self.old) }
 

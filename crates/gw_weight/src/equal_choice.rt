@@ -27,12 +27,7 @@ pub fn empty_choice(alloc: Global) -> EqualChoice
 }
 
 /// Takes memory only where a part is longer than it was before.
-pub fn ask(
-    choice: &mut EqualChoice,
-    name: &Key,
-    number: u64,
-    count: usize,
-) -> Result<(), NoMemory>
+pub fn ask(choice: &mut EqualChoice, name: &Key, number: u64, count: usize) -> Result<(), NoMemory>
     ensures ok { OnOk result (equal_choice_of choice.new ≡ record { name = name.now; number = number; weights = replicate count 1 }) }
     ensures namespace { vec_capacity choice.old.namespace ≤ vec_capacity choice.new.namespace }
     ensures name { vec_capacity choice.old.name ≤ vec_capacity choice.new.name }

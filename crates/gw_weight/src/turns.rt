@@ -24,8 +24,7 @@ impl Model for Turns {
 }
 
 impl Turns {
-    ghost use Rattle.std.specs.Prelude.{◌≡◌, replicate};
-    ghost use Rattle.gw_text.specs.model.Picks.{after_pick, pick, zeros};
+    ghost use Rattle.gw_text.specs.model.Picks.{pick, zeros};
     ghost use Rattle.gw_weight.specs.Fair.{IsFairPick};
 
     /// So many weights, of which none was picked yet.

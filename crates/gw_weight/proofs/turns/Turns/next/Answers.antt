@@ -1,5 +1,5 @@
 -- The turn is the pick, which is fair as that of any weights.
-use Rattle.std.proofs.Common.{◌≡◌, ◌<◌, Some, ap, ◌∙◌, sym, subst, arith, replicate}
+use Rattle.std.proofs.Common.{◌<◌, Some, ap, ◌∙◌, sym, subst, arith, replicate}
 use Rattle.gw_text.specs.model.Picks.{Shares, after_pick, pick}
 use Rattle.gw_weight.specs.Equal.{picked_before}
 use Rattle.gw_weight.specs.Fair.{IsFairPick}
