@@ -1,14 +1,13 @@
 //! The sockets of a Service's port, each once.
-ghost use Rattle.std.specs.Prelude.{◌≡◌, [], IfOk, OnOk, option_to_list, if◌then◌else◌};
+ghost use Rattle.std.specs.Prelude.{◌≡◌, [], IfOk, OnOk, map, option_to_list, if◌then◌else◌};
 ghost use Rattle.indexmap.specs.IndexSet.{insert_all};
 ghost use Rattle.gw_text.specs.model.Doors.{same_socket};
 ghost use Rattle.gw_text.specs.model.References as rules;
-ghost use Rattle.gw_text.specs.model.Stored.{objects_of};
 
 use crate::port::Target;
 use crate::slice::{endpoint_socket, is_slice_of, slice_port};
 use gw_objects::{Endpoint, EndpointSlice};
-use gw_text::{NoMemory, Socket, Sockets, Stored, Text};
+use gw_text::{NoMemory, Socket, Sockets, Text};
 use indexmap::IndexSet;
 use std::alloc::Global;
 
@@ -62,9 +61,9 @@ fn add_if_of(
 fn gather(
     alloc: Global,
     target: Target<'_>,
-    slices: &[Stored<EndpointSlice>],
+    slices: &[&EndpointSlice],
 ) -> Result<IndexSet<Socket>, NoMemory>
-    ensures { IfOk result (λ sockets. sockets.keys ≡ rules.sockets_of target.entry.service.now target.entry.port.now (objects_of slices.now)) }
+    ensures { IfOk result (λ sockets. sockets.keys ≡ rules.sockets_of target.entry.service.now target.entry.port.now (map (λ s. s.now) slices.now)) }
 {
     let mut sockets = IndexSet::new(alloc);
     'slices: for slice in slices {
@@ -77,9 +76,9 @@ fn gather(
 pub fn sockets_of(
     alloc: Global,
     target: Target<'_>,
-    slices: &[Stored<EndpointSlice>],
+    slices: &[&EndpointSlice],
 ) -> Result<Sockets, NoMemory>
-    ensures { IfOk result (λ sockets. sockets ≡ rules.sockets_of target.entry.service.now target.entry.port.now (objects_of slices.now)) }
+    ensures { IfOk result (λ sockets. sockets ≡ rules.sockets_of target.entry.service.now target.entry.port.now (map (λ s. s.now) slices.now)) }
 {
     let sockets = gather(alloc, target, slices)?;
     Ok(Sockets::from_vec(sockets.as_slice().to_vec(alloc)?))

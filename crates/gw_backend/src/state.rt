@@ -1,15 +1,14 @@
 //! The state of a backendRef.
-ghost use Rattle.std.specs.Prelude.{◌≡◌, List, IfOk, option_copied};
+ghost use Rattle.std.specs.Prelude.{◌≡◌, List, IfOk, map, option_copied};
 ghost use Rattle.gw_text.specs.model.References as rules;
 ghost use Rattle.gw_text.specs.model.Slices.{EndpointSlice as PlainSlice};
-ghost use Rattle.gw_text.specs.model.Stored.{objects_of};
 ghost use Rattle.gw_route.specs.States.{seen_state};
 
 use crate::port::port_of;
 use crate::sockets::sockets_of;
 use gw_objects::{EndpointSlice, Service};
 use gw_route::{BackendRef, BackendState};
-use gw_text::{NoMemory, Reason, Sockets, Stored};
+use gw_text::{NoMemory, Reason, Sockets};
 use std::alloc::Global;
 
 fn ready_with(sockets: Sockets) -> BackendState
@@ -29,9 +28,9 @@ pub fn backend_state(
     to: &BackendRef,
     permitted: bool,
     service: Option<&Service>,
-    slices: &[Stored<EndpointSlice>],
+    slices: &[&EndpointSlice],
 ) -> Result<BackendState, NoMemory>
-    ensures { IfOk result (λ state. seen_state state ≡ rules.backend_state_of to.now permitted (option_copied service.entry) (objects_of slices.now)) }
+    ensures { IfOk result (λ state. seen_state state ≡ rules.backend_state_of to.now permitted (option_copied service.entry) (map (λ s. s.now) slices.now)) }
 {
     match port_of(to, permitted, service) {
         Ok(target) => Ok(ready_with(sockets_of(alloc, target, slices)?)),

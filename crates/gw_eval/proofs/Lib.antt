@@ -1,3 +1,4 @@
+pub mod Backends
 pub mod Candidates
 pub mod Counting
 pub mod FirstOf

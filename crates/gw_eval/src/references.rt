@@ -32,7 +32,6 @@ fn service<'w>(world: &'w World, key: &Key) -> Option<&'w Service>
 }
 
 /// What becomes of the backendRef of a Route of this namespace.
-#[tactic(auto, unfolding(gw_text::specs::model::References::backend_state_in))]
 pub fn state(
     alloc: Global,
     world: &World,
@@ -43,8 +42,14 @@ pub fn state(
 {
     let key = to.key(alloc)?;
     let permitted = is_permitted(world, namespace, to, &key);
-    let slices = world.slices_in(&to.namespace);
-    backend_state(alloc, to, permitted, service(world, &key), slices)
+    let slices = world.slices_of(alloc, &key)?;
+    backend_state(
+        alloc,
+        to,
+        permitted,
+        service(world, &key),
+        slices.as_slice(),
+    )
 }
 
 // Why the backendRef of a Route of this namespace isn't resolved, if it isn't.

@@ -5,7 +5,7 @@ use gw_backend::{BackendState, backend_state, unresolved};
 use gw_json::{Cursor, read_value};
 use gw_objects::{EndpointSlice, Service, read_meta, read_service, read_slice};
 use gw_route::{BackendRef, HttpRoute, read_route};
-use gw_text::{Incoming, List, NoMemory, Reason, Second, Stored};
+use gw_text::{List, NoMemory, Reason};
 use std::alloc::Global;
 use std::test::*;
 
@@ -136,17 +136,16 @@ fn service_if(alloc: Global, spec: &str) -> Result<Option<Service>, Fail> {
 }
 
 // Of two members of one name the last counts.
-fn slice(alloc: Global, members: &str) -> Result<Stored<EndpointSlice>, Fail> {
+fn slice(alloc: Global, members: &str) -> Result<EndpointSlice, Fail> {
     let text = format!(in alloc;
         r#"{{"metadata":{{"name":"s-1","namespace":"d","labels":{{"kubernetes.io/service-name":"s"}}}},"addressType":"IPv4",{members}}}"#
     )?;
     let value = read_value(alloc, text.as_bytes())?;
     let at = Cursor::root(alloc, &value)?;
-    let slice = read_slice(alloc, read_meta(alloc, "EndpointSlice", &at)?, &at)?;
-    Ok(Incoming::new(alloc, slice)?.stored(Second(0)))
+    Ok(read_slice(alloc, read_meta(alloc, "EndpointSlice", &at)?, &at)?)
 }
 
-fn slices_of(alloc: Global, text: &str) -> Result<List<Stored<EndpointSlice>>, Fail> {
+fn slices_of(alloc: Global, text: &str) -> Result<List<EndpointSlice>, Fail> {
     let mut slices = List::new(alloc);
     if text == "-" {
         return Ok(slices);
@@ -193,9 +192,13 @@ fn outcome(
     to: &BackendRef,
     permitted: bool,
     service: Option<&Service>,
-    slices: &[Stored<EndpointSlice>],
+    slices: &[EndpointSlice],
 ) -> Result<String, NoMemory> {
-    let state = backend_state(alloc, to, permitted, service, slices)?;
+    let mut seen = Vec::with_capacity(alloc, slices.len())?;
+    for slice in slices {
+        seen.push(slice)?;
+    }
+    let state = backend_state(alloc, to, permitted, service, seen.as_slice())?;
     told(alloc, &state, unresolved(to, permitted, service))
 }
 

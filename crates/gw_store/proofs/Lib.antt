@@ -1,2 +1,4 @@
+pub mod Indexes
 pub mod Namespaces
 pub mod Places
+pub mod SlicesOf

@@ -1,3 +1,4 @@
+pub mod ByService
 pub mod Events
 pub mod EventTypes
 pub mod SeenEvents

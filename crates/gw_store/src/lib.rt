@@ -1,9 +1,11 @@
 //! Watch events, and the objects that are held after them, kind by kind and in key order.
 #![tactic(auto)]
 
+mod by_service;
 mod event;
 mod keyed;
 mod read;
+mod slices;
 mod table;
 mod world;
 

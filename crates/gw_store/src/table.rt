@@ -1,4 +1,4 @@
-ghost use Rattle.std.specs.Prelude.{◌≡◌, ◌<◌, ◌++◌, [], length, codes, nat_eq, IfOk, IfSome, OnOk, MatchResult, is_some, option_copied};
+ghost use Rattle.std.specs.Prelude.{◌≡◌, ◌<◌, ◌^◌, ◌++◌, [], length, codes, nat_eq, IfOk, IfSome, OnOk, MatchResult, is_some, option_copied};
 ghost use Rattle.std.specs.Cmp.Lexicographic.{slice_cmp};
 ghost use Rattle.std.specs.List.{starts_with};
 ghost use Rattle.std.specs.List.Sorted.{IsSearchInRange};
@@ -132,6 +132,15 @@ impl<T: Keyed + Drop> Table<T> {
             Some(name) => Ok(self.get(&Key::of_cluster(alloc, name))),
             None => Ok(None),
         }
+    }
+
+    /// Where the object of `key` stands among all, or where it would stand.
+    pub(crate) fn place_of(&self, key: &Key) -> Result<usize, usize>
+        ensures range { IsSearchInRange result (length self.now.stored) }
+        ensures place { MatchResult result (StandsAt T.key key.now self.now.stored) (IsMissingAt T.key key.now self.now.stored) }
+        ensures few { length self.now.stored < 2 ^ 64 }
+    {
+        place(self.objects(), key)
     }
 
     /// The place of the object that is held under `key` among all.

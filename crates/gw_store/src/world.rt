@@ -1,11 +1,13 @@
-ghost use Rattle.std.specs.Prelude.{◌≡◌, ◌↔◌, ◌<◌, false, nat_le, IsOk, IfOk, IfSome, IfErr, OnOk, length, option_copied};
+ghost use Rattle.std.specs.Prelude.{◌≡◌, ◌↔◌, ◌<◌, false, nat_le, IsOk, IfOk, IfSome, IfErr, OnOk, filter, length, map, option_copied};
 ghost use Rattle.gw_text.specs.model.Names.{cluster_key};
-ghost use Rattle.gw_text.specs.model.Stored.{stored_at, IsInKeyOrder};
+ghost use Rattle.gw_text.specs.model.References.{is_slice_of};
+ghost use Rattle.gw_text.specs.model.Stored.{stored_at, objects_of, IsInKeyOrder};
 ghost use Rattle.gw_text.specs.model.World as worlds;
 ghost use Rattle.gw_store.specs.SeenEvents.{seen_object, seen_event};
 ghost use Rattle.gw_store.specs.Table.{IsPlaceOf, at_place};
 
 use crate::event::{Event, Object};
+use crate::slices::Slices;
 use crate::table::Table;
 use gw_json::Refusal;
 use gw_objects::{EndpointSlice, Gateway, GatewayClass, Namespace, ReferenceGrant, Service};
@@ -29,7 +31,7 @@ pub struct World {
     grants: Table<ReferenceGrant>,
     namespaces: Table<Namespace>,
     services: Table<Service>,
-    slices: Table<EndpointSlice>,
+    slices: Slices,
     changes: u64,
 }
 
@@ -66,7 +68,7 @@ impl World {
             grants: Table::new(alloc),
             namespaces: Table::new(alloc),
             services: Table::new(alloc),
-            slices: Table::new(alloc),
+            slices: Slices::new(alloc),
             changes: 0,
         }
     }
@@ -324,5 +326,13 @@ impl World {
         ensures order { IsInKeyOrder worlds.slice_key result.now }
     {
         self.slices.in_namespace(namespace)
+    }
+
+    /// All EndpointSlices of the Service of this key, in key order. There may be a few of others among them, as a caller finds
+    /// by its own test.
+    pub fn slices_of(&self, alloc: Global, service: &Key) -> Result<Vec<&EndpointSlice>, NoMemory>
+        ensures { IfOk result (λ slices. filter (is_slice_of service.now) (map (λ s. s.now) slices.items) ≡ filter (is_slice_of service.now) (objects_of self.now.world.slices)) }
+    {
+        self.slices.of_service(alloc, service)
     }
 }
