@@ -7,6 +7,7 @@ use Rattle.std.specs.declared.cmp.Ordering.{Ordering}
 use Rattle.std.specs.declared.cmp.Ordering.TheVariants.{Less, Equal, Greater}
 use Rattle.std.proofs.lemmas.Bool.{cases_eq, cases_lt, eq-eqb}
 use Rattle.std.proofs.lemmas.Bool.Decides.{nat_tests}
+use Rattle.std.proofs.lemmas.List.Elements.{All-head, All-tail}
 use Rattle.std.proofs.lemmas.List.Edits.{length-insert, length-remove, get_or-insert_below, get_or-insert_at, get_or-insert_above, get_or-remove_below, get_or-remove_above}
 use Rattle.gw_store.proofs.Namespaces.{Falls, filter_front, filter_past}
 use Rattle.gw_store.specs.declared.by_service.Place.{Place}
@@ -231,6 +232,14 @@ up_apart p q = grind (arith, nat_tests)
 pub ups_apart : (p : ℕ) (ps : List Place) → AllByRecursion (λ q. (q.at == p) ≡ false) (map (moved_up p) ps)
 ups_apart p [] = tt
 ups_apart p (q ∷ ps) = (up_apart p q, ups_apart p ps)
+
+-- places below p stay where they are
+pub stay_below : (p : ℕ) (ps : List Place) → All (λ q. q.at < p) ps → map (moved_up p) ps ≡ ps
+stay_below p [] all = refl
+stay_below p (q ∷ ps) all =
+    let low : q.at < p = All-head (λ q. q.at < p) q ps all in
+    let same : moved_up p q ≡ q = ap (λ (i : ℕ). record q { at = i }) (up_below p q.at low) in
+    rw (same, stay_below p ps (All-tail (λ q. q.at < p) q ps all)) refl
 
 not_same : (b : Bool) → not b ≡ true → b ≡ false
 not_same false is = refl

@@ -1,5 +1,5 @@
 -- The slices of a Service have its digest, so they are among those that the digest finds.
-use Rattle.std.proofs.Common.{◌≡◌, ◌∙◌, ◌<◌, ◌+◌, ◌^◌, ◌++◌, ℤ, zero, suc, length, set, drop, get_or, arith, append_assoc, All, ℕ, Bool, true, false, ◌&&◌, ◌==◌, inl, inr, List, [], ◌∷◌, map, filter, filter_map, Option, Some, None, refl, sym, ap, ap₂, true≢false, codes, slice_get}
+use Rattle.std.proofs.Common.{◌≡◌, ◌∙◌, ◌<◌, ◌≤◌, ◌+◌, ◌++◌, ℤ, zero, suc, length, set, drop, get_or, arith, append_assoc, All, ℕ, Bool, true, false, ◌&&◌, ◌==◌, inl, inr, List, [], ◌∷◌, map, filter, filter_map, Option, Some, None, refl, sym, ap, ap₂, true≢false, codes, slice_get}
 use Rattle.std.specs.List.{insert, remove as remove_at}
 use Rattle.std.specs.Option.{option_map_or}
 use Rattle.std.specs.Prelude.{unwrap_or}
@@ -119,12 +119,12 @@ module _ (x : EndpointSlice) (now : ℤ) (hs : List (Stored EndpointSlice)) (at 
 pub digests_shrunk : (name : Key) (hs : List (Stored EndpointSlice)) (at : ℕ) → StandsAt slice_key name hs at → remove_at (digests_of hs) at ≡ digests_of (remove slice_key name hs)
 digests_shrunk name hs at stands = sym (remove_digests hs at) ∙ ap digests_of (remove-standing slice_key name hs at stands)
 
--- places are so small that each may move up by one
-pub few_places : (digests : List ℕ) (places : List Place) → IsIndexOf digests places → length digests < 2 ^ 64 → All (λ p. p.at + 1 < 2 ^ 64) places
-few_places digests places index few =
-    All-from_recursion (λ p. p.at + 1 < 2 ^ 64) places (all_weaker (IsPlaceIn digests) (λ p. p.at + 1 < 2 ^ 64) (λ p own. omega (arith, own.0, few)) places index.own)
+-- places are below the number of slices
+pub places_below : (digests : List ℕ) (places : List Place) (count : ℕ) → IsIndexOf digests places → length digests ≤ count → All (λ p. p.at < count) places
+places_below digests places count index most =
+    All-from_recursion (λ p. p.at < count) places (all_weaker (IsPlaceIn digests) (λ p. p.at < count) (λ p own. omega (arith, own.0, most)) places index.own)
 
--- and each is that of a slice
+-- each place of a digest is that of a slice
 pub own_places : (digest : ℕ) (slices : List (Stored EndpointSlice)) (places : List Place) → IsIndexOf (digests_of slices) places → All (λ p. p.at < length slices) (filter (has_digest digest) places)
 own_places digest slices places index =
     let count = count_digests slices in

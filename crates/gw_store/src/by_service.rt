@@ -81,14 +81,14 @@ impl ByService {
         self.places.reserve(1)
     }
 
-    /// Takes in a slice that was put at this place.
-    pub fn insert(&mut self, at: usize, digest: u64)
+    /// Takes in a slice that was put at this place, where all places so far are below `count`.
+    pub fn insert(&mut self, at: usize, digest: u64, count: usize)
         requires room { vec_len self.old.places < vec_capacity self.old.places }
-        requires few { All (λ p. p.at + 1 < 2 ^ 64) self.old.places.items }
+        requires count { All (λ p. p.at < count) self.old.places.items }
         ensures { (digests : List ℕ) → rules.IsIndexOf digests self.old.places.items → at ≤ length digests
             → rules.IsIndexOf (insert digests at digest) self.new.places.items }
     {
-        move_up(self.places.as_mut_slice(), at);
+        make_way(self.places.as_mut_slice(), at, count);
         let place = Place { digest, at };
         let rank = self
             .places
@@ -117,6 +117,17 @@ impl ByService {
         let rest = &places[first..];
         let count = rest.partition_point(|place| place.digest == digest);
         &rest[..count]
+    }
+}
+
+// Moves up the places from this one on.
+fn make_way(places: &mut [Place], from: usize, count: usize)
+    requires { All (λ p. p.at < count) places.old }
+    ensures { places.new ≡ map (rules.moved_up from) places.old }
+{
+    // Lists come in key order from an API server, and move nothing.
+    if from < count {
+        move_up(places, from);
     }
 }
 

@@ -81,15 +81,16 @@ impl Slices {
         ensures { self.new.stored ≡ put slice_key slice now self.old.stored }
     {
         let digest = slice_digest(&slice);
+        let count = self.table.len();
         match self.table.place_of(slice.key()) {
             Ok(at) => {
                 // Most changes of a slice leave it to its Service.
                 if slice_digest(&self.table.objects()[at]) != digest {
                     self.by_service.remove(at);
-                    self.by_service.insert(at, digest);
+                    self.by_service.insert(at, digest, count);
                 }
             }
-            Err(at) => self.by_service.insert(at, digest),
+            Err(at) => self.by_service.insert(at, digest, count),
         }
         self.table.put(slice, now);
     }

@@ -1,4 +1,4 @@
-ghost use Rattle.std.specs.Prelude.{◌≡◌, ◌<◌, ◌^◌, ◌++◌, [], length, codes, nat_eq, IfOk, IfSome, OnOk, MatchResult, is_some, option_copied};
+ghost use Rattle.std.specs.Prelude.{◌≡◌, ◌<◌, ◌++◌, [], length, codes, nat_eq, IfOk, IfSome, OnOk, MatchResult, is_some, option_copied};
 ghost use Rattle.std.specs.Cmp.Lexicographic.{slice_cmp};
 ghost use Rattle.std.specs.List.{starts_with};
 ghost use Rattle.std.specs.List.Sorted.{IsSearchInRange};
@@ -138,7 +138,6 @@ impl<T: Keyed + Drop> Table<T> {
     pub(crate) fn place_of(&self, key: &Key) -> Result<usize, usize>
         ensures range { IsSearchInRange result (length self.now.stored) }
         ensures place { MatchResult result (StandsAt T.key key.now self.now.stored) (IsMissingAt T.key key.now self.now.stored) }
-        ensures few { length self.now.stored < 2 ^ 64 }
     {
         place(self.objects(), key)
     }

@@ -59,6 +59,22 @@ const NAMESPACES: &[(&str, &str)] = &[
     ("w", ""),
 ];
 
+// An event, the namespace and name of its slice, the Service that its label names, or `-`, and the slices of the Service
+// `a/s` that are held after it.
+const SERVICE_STEPS: &str = "
+ADDED a w s w
+ADDED b w s w
+ADDED a y t w
+ADDED a x s w,x
+MODIFIED a y s w,x,y
+MODIFIED a w - x,y
+ADDED a v s v,x,y
+MODIFIED a x s v,x,y
+DELETED a v - x,y
+DELETED a y - x
+DELETED b w - x
+";
+
 // Fields for all kinds: those that a kind doesn't have aren't read.
 const FIELDS: &str =
     r#""addressType":"IPv4","spec":{"controllerName":"c","gatewayClassName":"c","listeners":[{"name":"l","port":80,"protocol":"HTTP"}],"from":[],"to":[]}"#;
@@ -286,6 +302,68 @@ fn objects_of_each_kind(rt: HostRuntime) -> Result<(), Fail> {
     assert!(rt; world.changes() == 69);
     for (namespace, held) in NAMESPACES {
         expect_held(alloc, &world, namespace, held)?;
+    }
+    Ok(())
+}
+
+// The line of an event on a slice.
+fn slice_line(
+    alloc: Global,
+    sort: &str,
+    namespace: &str,
+    name: &str,
+    service: &str,
+) -> Result<String, AllocError> {
+    let labels = if service == "-" {
+        String::new(alloc)
+    } else {
+        format!(in alloc; r#""kubernetes.io/service-name":"{service}""#)?
+    };
+    format!(in alloc;
+        r#"{{"type":"{sort}","object":{{"apiVersion":"discovery.k8s.io/v1","kind":"EndpointSlice","metadata":{{"namespace":"{namespace}","name":"{name}","labels":{{{labels}}}}},{FIELDS}}}}}"#
+    )
+}
+
+fn names_of(alloc: Global, slices: &[&EndpointSlice]) -> Result<String, AllocError> {
+    let mut names = String::new(alloc);
+    for slice in slices {
+        if !names.is_empty() {
+            names.push(',')?;
+        }
+        let name = slice.meta.key.name.printed(alloc)?;
+        names.push_str(name.as_str())?;
+    }
+    Ok(names)
+}
+
+// The step leaves the slices of the Service that its row says.
+fn leaves(alloc: Global, world: &mut World, service: &Key, row: &str) -> Result<bool, Fail> {
+    let mut words = row.split(' ');
+    let (Some(sort), Some(namespace), Some(name), Some(label), Some(held)) = (
+        words.next(),
+        words.next(),
+        words.next(),
+        words.next(),
+        words.next(),
+    ) else {
+        return Err(Fail::from("a step has five words"));
+    };
+    let line = slice_line(alloc, sort, namespace, name, label)?;
+    take(alloc, world, line.as_str(), Second(0))?;
+    let slices = world.slices_of(alloc, service)?;
+    let told = names_of(alloc, slices.as_slice())?;
+    Ok(told.as_str() == held)
+}
+
+#[test]
+fn slices_of_a_service(rt: HostRuntime) -> Result<(), Fail> {
+    let alloc = rt.alloc();
+    let mut world = World::new(alloc);
+    let service = Key::parse(alloc, "a/s")?;
+    for row in SERVICE_STEPS.trim().lines() {
+        if !leaves(alloc, &mut world, &service, row)? {
+            return Err(Fail::new(format!(in alloc; "{row}")?));
+        }
     }
     Ok(())
 }

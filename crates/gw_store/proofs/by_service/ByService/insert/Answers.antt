@@ -17,9 +17,9 @@ returns c digests index within =
     let e : Place = record { digest = c.args.digest; at = at } in
     let v = c.args.self.now.places in
     let ups = map (moved_up at) v.items in
-    let moved : c.move_up.new.places ≡ ups = c.move_up.ensures ∙ ap (map (moved_up at)) c.as_mut_slice.ensures.value in
-    let size : length c.move_up.new.places ≡ v.len = ap length moved ∙ (length-map v.items (moved_up at) ∙ sym v.ok.0) in
-    let written : (with_items v c.move_up.new.places).items ≡ ups = with_items_is v c.move_up.new.places size ∙ moved in
+    let moved : c.make_way.new.places ≡ ups = c.make_way.ensures ∙ ap (map (moved_up at)) c.as_mut_slice.ensures.value in
+    let size : length c.make_way.new.places ≡ v.len = ap length moved ∙ (length-map v.items (moved_up at) ∙ sym v.ok.0) in
+    let written : (with_items v c.make_way.new.places).items ≡ ups = with_items_is v c.make_way.new.places size ∙ moved in
     let xs = c.deref.result.now in
     let same : xs ≡ ups = c.deref.ensures.value ∙ written in
     let order : IsStrictlySortedBy place_order xs = rw same (sorted_up at v.items index.order) in

@@ -6,21 +6,19 @@ use Rattle.gw_text.specs.model.Stored.{Stored, put}
 use Rattle.gw_text.specs.model.Slices.{EndpointSlice}
 use Rattle.gw_store.specs.ByService.{IsIndexOf, digests_of, slice_digest}
 use Rattle.gw_store.proofs.Places.{stands_within}
-use Rattle.gw_store.proofs.SlicesOf.{count_digests, digests_grown, digests_kept, digests_moved, few_places}
+use Rattle.gw_store.proofs.SlicesOf.{count_digests, digests_grown, digests_kept, digests_moved, places_below}
 use Rattle.std.specs.List.{remove as remove_at}
 use Rattle.gw_store.proofs.slices.Slices.put.Goals as goal
 use Rattle.gw_store.proofs.slices.Slices.put.Goals.{in-Ok+then-slice_digest-digest, in-Ok+else-slice_digest-digest, in-Err}
 
-pub insert-requires-clause-few : goal.insert-requires-clause-few
-insert-requires-clause-few c =
+pub insert-requires-clause-count : goal.insert-requires-clause-count
+insert-requires-clause-count c =
     let hs = c.self.inside.table.stored in
     let at = c.in-Ok.at in
-    let few = c.in-Ok.ensures.few in
-    let count = count_digests hs in
-    let stands = c.in-Ok.ensures.place in
-    let within : at < length (digests_of hs) = rw count (stands_within slice_key _ hs at stands) in
+    let within : at < length (digests_of hs) = rw (count_digests hs) (stands_within slice_key _ hs at c.in-Ok.ensures.place) in
     let fewer = length-remove (digests_of hs) at within in
-    few_places (remove_at (digests_of hs) at) c.remove.new.self.places.items (c.remove.ensures.index (digests_of hs) c.self.invariant within) (omega (arith, few, count, fewer))
+    let all = count_digests hs in
+    places_below (remove_at (digests_of hs) at) c.remove.new.self.places.items c.len-count.result (c.remove.ensures.index (digests_of hs) c.self.invariant within) (omega (arith, fewer, all, c.len-count.ensures))
 
 pub invariant_of-self : goal.invariant_of-self
 invariant_of-self c =
