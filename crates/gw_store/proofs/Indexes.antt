@@ -102,7 +102,8 @@ module _ (p : ℕ) where
   sorted_up [] order = tt
   sorted_up (a ∷ ps) order = (
     all_map (λ b. place_order a b ≡ Less) (λ b. place_order (moved_up p a) b ≡ Less) (moved_up p) (λ b low. ap (ordering_then (nat_cmp a.digest b.digest)) (cmp_up p a.at b.at) ∙ low) ps order.0,
-    sorted_up ps order.1)
+    sorted_up ps order.1,
+  )
 
   -- elsewhere than at p
   abbrev Other : Place → Type 0
@@ -113,8 +114,9 @@ module _ (p : ℕ) where
   sorted_down [] order others = tt
   sorted_down (a ∷ ps) order others = (
     all_map (λ b. (place_order a b ≡ Less) × Other b) (λ b. place_order (moved_down p a) b ≡ Less) (moved_down p)
-    (λ b both. ap (ordering_then (nat_cmp a.digest b.digest)) (cmp_down p a.at b.at others.0 both.1) ∙ both.0) ps (all_both (λ b. place_order a b ≡ Less) Other ps order.0 others.1),
-    sorted_down ps order.1 others.1)
+        (λ b both. ap (ordering_then (nat_cmp a.digest b.digest)) (cmp_down p a.at b.at others.0 both.1) ∙ both.0) ps (all_both (λ b. place_order a b ≡ Less) Other ps order.0 others.1),
+    sorted_down ps order.1 others.1,
+  )
 
 sorted_filter : (q : Place → Bool) (ps : List Place) → IsStrictlySortedBy place_order ps → IsStrictlySortedBy place_order (filter q ps)
 unfolding IsStrictlySortedBy
@@ -145,14 +147,16 @@ module _ (e : Place) where
   gap_here [] behind others = tt
   gap_here (q ∷ ps) behind others = (
     over_numbers q.digest q.at e.digest e.at (behind 0 q (omega arith) (omega arith)) others.0,
-    gap_here ps (λ k d low high. behind (suc k) d (omega arith) (omega arith)) others.1)
+    gap_here ps (λ k d low high. behind (suc k) d (omega arith) (omega arith)) others.1,
+  )
 
   pub gap_at : (ps : List Place) (i : ℕ) → i ≤ length ps → AllWithin (λ q. before q ≡ true) ps 0 i → AllWithin (λ q. before q ≡ false) ps i (length ps) → AllByRecursion (λ q. (q.at == e.at) ≡ false) ps → Gap e ps i
   gap_at ps zero within front behind others = gap_here ps behind others
   gap_at [] (suc i) within front behind others = absurd (omega arith)
   gap_at (q ∷ ps) (suc i) within front behind others = (
     under_numbers q.digest q.at e.digest e.at (front 0 q (omega arith) (omega arith)),
-    gap_at ps i (omega arith) (λ k d low high. front (suc k) d (omega arith) (omega arith)) (λ k d low high. behind (suc k) d (omega arith) (omega arith)) others.1)
+    gap_at ps i (omega arith) (λ k d low high. front (suc k) d (omega arith) (omega arith)) (λ k d low high. behind (suc k) d (omega arith) (omega arith)) others.1,
+  )
 
   sorted_insert : (ps : List Place) (i : ℕ) → IsStrictlySortedBy place_order ps → Gap e ps i → IsStrictlySortedBy place_order (insert ps i e)
   unfolding IsStrictlySortedBy
@@ -217,11 +221,11 @@ module _ (digests : List ℕ) (p digest : ℕ) (within : p ≤ length digests) w
             elim (cases_lt i p) [
               | inl low ↦ (let has = rw (up_below p i low) at (has_up p ps i (index.all i (omega arith))) in has_old e ups k i has)
               | inr high ↦ (elim (cases_eq i p) [
-                  | inl same ↦ (rw same (has_new e ups k))
-                  | inr other ↦ (
-                      let here : up_from p (i - 1) ≡ i = (let above = up_above p (i - 1) (omega arith) in omega (arith, above)) in
-                      let has = rw here at (has_up p ps (i - 1) (index.all (i - 1) (omega arith))) in has_old e ups k i has)
-                ])
+                | inl same ↦ (rw same (has_new e ups k))
+                | inr other ↦ (
+                    let here : up_from p (i - 1) ≡ i = (let above = up_above p (i - 1) (omega arith) in omega (arith, above)) in
+                    let has = rw here at (has_up p ps (i - 1) (index.all (i - 1) (omega arith))) in has_old e ups k i has)
+              ])
             ];
       }
 
@@ -336,14 +340,16 @@ module _ (digest : ℕ) where
   lower_falls [] order = tt
   lower_falls (a ∷ ps) order = (
     (λ high. all_weaker (λ b. place_order a b ≡ Less) (λ b. lower b ≡ false) (λ b low. digest_later a.digest a.at b.digest b.at digest high low) ps order.0),
-    lower_falls ps order.1)
+    lower_falls ps order.1,
+  )
 
   pub same_falls : (ps : List Place) → IsStrictlySortedBy place_order ps → AllByRecursion (λ p. lower p ≡ false) ps → Falls has_digest ps
   unfolding IsStrictlySortedBy
   same_falls [] order high = tt
   same_falls (a ∷ ps) order high = (
     (λ other. all_weaker (λ b. place_order a b ≡ Less) (λ b. has_digest b ≡ false) (λ b low. digest_past a.digest a.at b.digest b.at digest high.0 other low) ps order.0),
-    same_falls ps order.1 high.1)
+    same_falls ps order.1 high.1,
+  )
 
   pub sorted_drop : (ps : List Place) (i : ℕ) → IsStrictlySortedBy place_order ps → IsStrictlySortedBy place_order (drop i ps)
   unfolding IsStrictlySortedBy

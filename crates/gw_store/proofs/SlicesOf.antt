@@ -145,5 +145,5 @@ pub one_found : (slices : List (Stored EndpointSlice)) (places : List Place) (i 
 one_found slices places i d found s within there read so_far =
     let here : slice_get (objects_of slices) (get_or places i d).at ≡ Some s.object = object_at slices (get_or places i d).at s there read in
     let next : filter_map (λ p. slice_get (objects_of slices) p.at) (drop i places) ≡ s.object ∷ filter_map (λ p. slice_get (objects_of slices) p.at) (drop (i + 1) places) =
-        (rw (drop_more places i d within, here) refl) in
+    (rw (drop_more places i d within, here) refl) in
     append_assoc found (s.object ∷ []) (filter_map (λ p. slice_get (objects_of slices) p.at) (drop (i + 1) places)) ∙ (ap (λ (rest : List EndpointSlice). found ++ rest) (sym next) ∙ so_far)

@@ -31,11 +31,7 @@ impl Place {
         requires { self.at + 1 < 2 ^ 64 }
         ensures { result ≡ rules.moved_up from self }
     {
-        let at = if self.at < from {
-            self.at
-        } else {
-            self.at + 1
-        };
+        let at = if self.at < from { self.at } else { self.at + 1 };
         Place {
             digest: self.digest,
             at,
@@ -45,11 +41,7 @@ impl Place {
     fn moved_down(self, from: usize) -> Place
         ensures { result ≡ rules.moved_down from self }
     {
-        let at = if from < self.at {
-            self.at - 1
-        } else {
-            self.at
-        };
+        let at = if from < self.at { self.at - 1 } else { self.at };
         Place {
             digest: self.digest,
             at,

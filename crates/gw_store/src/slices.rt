@@ -117,11 +117,7 @@ impl Slices {
     }
 
     /// All slices of the Service of this key, in key order. There may be others among them, which no caller is to count.
-    pub fn of_service(
-        &self,
-        alloc: Global,
-        service: &Key,
-    ) -> Result<Vec<&EndpointSlice>, NoMemory>
+    pub fn of_service(&self, alloc: Global, service: &Key) -> Result<Vec<&EndpointSlice>, NoMemory>
         ensures { IfOk result (λ slices. filter (is_slice_of service.now) (map (λ s. s.now) slices.items) ≡ filter (is_slice_of service.now) (objects_of self.now.stored)) }
     {
         let digest = service_digest(service.namespace.bytes(), service.name.bytes());

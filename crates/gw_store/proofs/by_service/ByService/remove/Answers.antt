@@ -15,6 +15,6 @@ returns-clause-index c digests index within =
     let kept : c.retain.new.self.items ≡ filter (stays digests at within) places = filter_same _ _ _ (λ x b f' k. search rules) _ _ c.retain.ensures.filtered in
     let moved : c.move_down.new.places ≡ map (moved_down at) c.retain.new.self.items = c.move_down.ensures ∙ ap (map (moved_down at)) c.as_mut_slice.ensures.value in
     let size : length c.move_down.new.places ≡ c.retain.new.self.len =
-        ap length moved ∙ (length-map c.retain.new.self.items (moved_down at) ∙ sym c.retain.new.self.ok.0) in
+    ap length moved ∙ (length-map c.retain.new.self.items (moved_down at) ∙ sym c.retain.new.self.ok.0) in
     subst (λ (ps : List Place). IsIndexOf (remove digests at) ps) (sym (with_items_is c.retain.new.self c.move_down.new.places size ∙ (moved ∙ ap (map (moved_down at)) kept)))
     (index_remove digests at within places index)

@@ -44,7 +44,7 @@ invariant_of-self c =
           let read : get_or hs at held ≡ held = sym (rw w.objects.ensures.value at w.index-objects-at.is) in
           let equal : w.slice_digest.result ≡ digest = omega (arith, w.if-slice_digest-digest.false) in
           let same : slice_digest (get_or hs at held).object ≡ digest =
-              ap (λ (h : Stored EndpointSlice). slice_digest h.object) read ∙ (sym (w.slice_digest.ensures ∙ ap slice_digest w.deref-in-Ok.ensures) ∙ equal) in
+          ap (λ (h : Stored EndpointSlice). slice_digest h.object) read ∙ (sym (w.slice_digest.ensures ∙ ap slice_digest w.deref-in-Ok.ensures) ∙ equal) in
           rw (stored, ← digests_kept x now hs at digest held stands is same, w.self-inside-is) c.self.invariant)
       | in-Err w ↦ (
           let at = w.in-Err.at in
