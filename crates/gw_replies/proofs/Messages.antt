@@ -4,6 +4,7 @@ use Rattle.std.specs.List.{flat_map}
 use Rattle.std.proofs.lemmas.Grind.{flat_map-append}
 use Rattle.gw_text.specs.model.Fields.{Field}
 use Rattle.gw_replies.specs.model.Responses.{Response, is_bodiless}
+use Rattle.gw_replies.specs.Parts.{reply_rest, request_rest}
 use Rattle.gw_replies.specs.model.Written.{close_line, ended_line, field_line, field_lines, forward, given_fault, given_line, length_line, only_if, own, phrase_of, reply, reply_length, status_line, via_line}
 use Rattle.gw_replies.specs.declared.fault.FaultName.{FaultName}
 
@@ -25,30 +26,15 @@ own_lines f a l gs xs cs =
 
 pub forward_is : (method target host : List ℕ) (minor : ℕ) (fields : List Field) (body : List ℕ) (framed : Bool)
     → forward method target host minor fields body framed
-    ≡ (((((([] ++ ended_line (method ++ codes " " ++ target ++ codes " HTTP/1.1")) ++ ended_line (field_line (codes "host") host)) ++ flat_map ended_line (field_lines fields))
-    ++ ended_line (via_line minor)) ++ flat_map ended_line (only_if framed (length_line (length body)))) ++ flat_map ended_line (only_if true close_line))
-    ++ ended_line [] ++ (if framed then body else [])
+    ≡ request_rest ((([] ++ ended_line (method ++ codes " " ++ target ++ codes " HTTP/1.1")) ++ ended_line (field_line (codes "host") host)) ++ flat_map ended_line (field_lines fields)) minor body framed
 unfolding forward
 forward_is method target host minor fields body framed =
     ap (λ l. l ++ ended_line [] ++ (if framed then body else []))
     (forward_lines ended_line (method ++ codes " " ++ target ++ codes " HTTP/1.1") (field_line (codes "host") host) (via_line minor)
     (field_lines fields) (only_if framed (length_line (length body))) (only_if true close_line))
 
--- a request whose parts were written one after the other
-pub forward_by : (method target host : List ℕ) (minor : ℕ) (fields : List Field) (body : List ℕ) (framed : Bool) (m t h via : List ℕ) (fs : List Field) (b c out empty start_line with_host with_fields with_via with_length with_close : List ℕ)
-    → empty ≡ [] → m ≡ method → t ≡ target → h ≡ host → fs ≡ fields → via ≡ via_line minor → b ≡ body → c ≡ body
-    → start_line ≡ empty ++ ended_line (m ++ codes " " ++ t ++ codes " HTTP/1.1") → with_host ≡ start_line ++ ended_line (field_line (codes "host") h)
-    → with_fields ≡ with_host ++ flat_map ended_line (field_lines fs) → with_via ≡ with_fields ++ ended_line via
-    → with_length ≡ with_via ++ flat_map ended_line (only_if framed (length_line (length b))) → with_close ≡ with_length ++ flat_map ended_line (only_if true close_line)
-    → out ≡ with_close ++ ended_line [] ++ (if framed then c else [])
-    → out ≡ forward method target host minor fields body framed
-forward_by method target host minor fields body framed m t h via fs b c out a0 a1 a2 a3 a4 a5 a6 e0 e1 e2 e3 e4 e5 e6 e7 f1 f2 f3 f4 f5 f6 f7 =
-    rw (forward_is method target host minor fields body framed, f7, f6, f5, f4, f3, f2, f1, e0, e1, e2, e3, e4, e5, e6, e7) refl
-
 pub reply_is : (r : Response) (to_head close : Bool)
-    → reply r to_head close
-    ≡ (((([] ++ ended_line (status_line r.code r.phrase)) ++ flat_map ended_line (field_lines r.fields)) ++ flat_map ended_line (reply_length r to_head))
-    ++ flat_map ended_line (only_if close close_line)) ++ ended_line [] ++ (if is_bodiless to_head r.code then [] else r.body)
+    → reply r to_head close ≡ reply_rest (([] ++ ended_line (status_line r.code r.phrase)) ++ flat_map ended_line (field_lines r.fields)) r to_head close
 unfolding reply
 reply_is r to_head close =
     ap (λ l. l ++ ended_line [] ++ (if is_bodiless to_head r.code then [] else r.body))

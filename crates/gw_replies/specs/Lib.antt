@@ -1,5 +1,6 @@
 pub mod Extents
 pub mod Kinds
 pub mod Options
+pub mod Parts
 pub mod Replies
 pub mod model

@@ -8,7 +8,7 @@ use gw_text::{Field, Fields, NoMemory, Text};
 use std::alloc::Global;
 
 /// The names of a response's fields that concern the connection alone.
-const RESPONSE_HOPS: &[&str] = &[
+pub(crate) const RESPONSE_HOPS: &[&str] = &[
     "connection",
     "keep-alive",
     "proxy-connection",
@@ -19,7 +19,7 @@ const RESPONSE_HOPS: &[&str] = &[
 ];
 
 /// The names of a request's fields that concern the connection alone, or are written anew.
-const REQUEST_HOPS: &[&str] = &[
+pub(crate) const REQUEST_HOPS: &[&str] = &[
     "host",
     "te",
     "expect",
@@ -74,7 +74,8 @@ fn others(
     Ok(Fields::from_vec(kept))
 }
 
-fn is_hop(name: &[u8], names: &[&str], options: &Options<'_>) -> bool
+/// Whether the name is one of these names or options.
+pub(crate) fn is_hop(name: &[u8], names: &[&str], options: &Options<'_>) -> bool
     ensures { result ≡ list_any (same_field_name name.now) (map (λ n. n.now) names.now ++ options.now) }
 {
     is_among(name, names) || options.has(name)

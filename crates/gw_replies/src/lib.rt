@@ -18,4 +18,6 @@ pub use hop::{passed_back, passed_on};
 pub use reader::ReplyReader;
 pub use response::Response;
 pub use step::ReplyStep;
-pub use write::{write_forward, write_own, write_reply};
+pub use write::{
+    write_forward, write_own, write_reply, write_unedited_forward, write_unedited_reply,
+};

@@ -1,5 +1,5 @@
 -- The names stand in the order that the sort compares by, and are those that Connection has.
-use Rattle.std.proofs.Common.{◌∙◌, ap, map, rules, sym}
+use Rattle.std.proofs.Common.{◌∙◌, ap, rules, sym}
 use Rattle.std.proofs.lemmas.Cmp.{nat_list_cmp_total}
 use Rattle.std.proofs.lemmas.Fn.{always_returns_same}
 use Rattle.std.proofs.lemmas.List.Sorted.{IsPermutation-map, list_any-IsPermutation, ranks_by}
