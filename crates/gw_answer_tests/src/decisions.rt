@@ -1,7 +1,7 @@
 //! What is done about a request: what is chosen for it, and what is sent or answered. The expected texts are written by hand.
 use crate::door::table_by;
 use crate::shown::shown;
-use gw_answers::{Books, decided};
+use gw_answers::{Books, Decision};
 use gw_match::DoorTable;
 use gw_message_rows::column;
 use gw_row_cases::{request, same};
@@ -32,7 +32,7 @@ const CASES: &str = r#"
 // What is done about one request.
 fn done(alloc: Global, table: &DoorTable, asked: &str, books: &mut Books) -> Result<String, Fail> {
     let request = request(alloc, asked)?;
-    let decision = decided(alloc, table, &request, books)?;
+    let decision = Decision::of(alloc, table, &request, books)?;
     Ok(shown(alloc, &decision)?)
 }
 

@@ -1,9 +1,7 @@
 //! What comes back: the row that is kept of a request, and the reply. The expected texts are written by hand.
 use crate::door::table_by;
 use crate::shown::shown_row;
-use gw_answers::{
-    Action, Books, Decision, ServedRow, decided, fault_of, is_head, status_of, write_answer,
-};
+use gw_answers::{Action, Books, Decision, ServedRow, fault_of, is_head, status_of, write_answer};
 use gw_frames::Request;
 use gw_message_rows::{column, show, written};
 use gw_replies::{BackendFault, ReplyReader, ReplyStep, Response};
@@ -49,7 +47,7 @@ fn answer_of(
 fn decision_of(alloc: Global, rule: &str, request: &Request) -> Result<Decision, Fail> {
     let table = table_by(alloc, rule)?;
     let mut books = Books::new(alloc);
-    Ok(decided(alloc, &table, request, &mut books)?)
+    Ok(Decision::of(alloc, &table, request, &mut books)?)
 }
 
 fn case(alloc: Global, line: &str) -> Result<(), Fail> {

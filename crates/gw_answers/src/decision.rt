@@ -61,40 +61,42 @@ impl Model for Decision {
     ghost view = { λ d. record { chosen = d.chosen; action = seen_action d.action } };
 }
 
-/// What is done about a request at the door of the table. Where memory is wanted, picks of the request may be counted, and a book
-/// may be empty.
-#[tactic(auto, unfolding(crate::specs::model::Decisions::decision_of, crate::specs::model::Decisions::books_after))]
-pub fn decided(
-    alloc: Global,
-    table: &DoorTable,
-    request: &Request,
-    books: &mut Books,
-) -> Result<Decision, NoMemory>
-    ensures value { IfOk result (λ d. d ≡ rules.decision_of table.now request.now books.old) }
-    ensures after { OnOk result (books.new ≡ rules.books_after table.now request.now books.old) }
-    ensures err { OnErr result (AreLeft books.old (rules.books_after table.now request.now books.old) books.new) }
-{
-    let listener = listener_name(alloc, table, request)?;
-    match decide(table, request) {
-        Verdict::NotFound => Ok(replied(Chosen::unrouted(listener), 404, None)),
-        Verdict::Redirect(row) => redirect(
-            alloc,
-            Chosen::routed(alloc, listener, row)?,
-            row,
-            request,
-        ),
-        Verdict::Nothing(row) => Ok(replied(
-            Chosen::routed(alloc, listener, row)?,
-            500,
-            Some(FaultName::NoBackend),
-        )),
-        Verdict::Choose(row) => by_pick(
-            alloc,
-            Chosen::routed(alloc, listener, row)?,
-            row,
-            request,
-            books,
-        ),
+impl Decision {
+    /// What is done about a request at the door of the table. Where memory is wanted, picks of the request may be counted, and a book
+    /// may be empty.
+    #[tactic(auto, unfolding(crate::specs::model::Decisions::decision_of, crate::specs::model::Decisions::books_after))]
+    pub fn of(
+        alloc: Global,
+        table: &DoorTable,
+        request: &Request,
+        books: &mut Books,
+    ) -> Result<Decision, NoMemory>
+        ensures value { IfOk result (λ d. d ≡ rules.decision_of table.now request.now books.old) }
+        ensures after { OnOk result (books.new ≡ rules.books_after table.now request.now books.old) }
+        ensures err { OnErr result (AreLeft books.old (rules.books_after table.now request.now books.old) books.new) }
+    {
+        let listener = listener_name(alloc, table, request)?;
+        match decide(table, request) {
+            Verdict::NotFound => Ok(replied(Chosen::unrouted(listener), 404, None)),
+            Verdict::Redirect(row) => redirect(
+                alloc,
+                Chosen::routed(alloc, listener, row)?,
+                row,
+                request,
+            ),
+            Verdict::Nothing(row) => Ok(replied(
+                Chosen::routed(alloc, listener, row)?,
+                500,
+                Some(FaultName::NoBackend),
+            )),
+            Verdict::Choose(row) => by_pick(
+                alloc,
+                Chosen::routed(alloc, listener, row)?,
+                row,
+                request,
+                books,
+            ),
+        }
     }
 }
 

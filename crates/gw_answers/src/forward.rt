@@ -1,15 +1,17 @@
 ghost use Rattle.std.specs.Prelude.{◌≡◌, IfOk, IsTrue, option_copied, unwrap_or};
 ghost use Rattle.gw_text.specs.model.Matches.{path_fits};
 ghost use Rattle.gw_filters.specs.model.Locations.{host_of, target_of};
+ghost use Rattle.gw_filters.specs.model.Editing.{edited};
 ghost use Rattle.gw_replies.specs.model.Hops.{passed_on};
+ghost use Rattle.gw_replies.specs.model.Written.{forward};
 ghost use Rattle.gw_answers.specs.model.Messages as rules;
 
 use gw_filters::{edit, rewrite};
 use gw_frames::Request;
-use gw_replies::{passed_on, write_forward};
+use gw_replies::{passed_on, write_forward, write_unedited_forward};
 use gw_route::{Edits, Filter, PathMatch, Rewrite};
 use gw_rows::Plan;
-use gw_text::{Fields, NoMemory, Text};
+use gw_text::{NoMemory, Text};
 use std::alloc::Global;
 
 /// The bytes of the request as a backend is sent it.
@@ -24,13 +26,38 @@ pub(crate) fn write_forwarded(
     ensures { IfOk result (λ text. text ≡ rules.forward_of plan.now test.now request.now) }
 {
     let (target, host) = rewritten(alloc, plan, test, request)?;
+    match request_edits_in(plan) {
+        Some(edits) => write_edited(alloc, edits, &target, &host, request),
+        None => write_unedited_forward(
+            alloc,
+            &request.method,
+            &target,
+            &host,
+            request.minor,
+            &request.fields,
+            &request.body,
+            request.framed,
+        ),
+    }
+}
+
+// The bytes of the request to this target and host, with its fields after the edits.
+fn write_edited(
+    alloc: Global,
+    edits: &Edits,
+    target: &Text,
+    host: &Text,
+    request: &Request,
+) -> Result<Text, NoMemory>
+    ensures { IfOk result (λ text. text ≡ forward request.now.method target.now host.now request.now.minor (edited edits.now (passed_on request.now.fields)) request.now.body request.now.framed) }
+{
     let passed = passed_on(alloc, &request.fields)?;
-    let fields = edited_by(alloc, request_edits_in(plan), passed)?;
+    let fields = edit(alloc, &passed, edits)?;
     write_forward(
         alloc,
         &request.method,
-        &target,
-        &host,
+        target,
+        host,
         request.minor,
         &fields,
         &request.body,
@@ -58,20 +85,6 @@ fn rewritten(
             };
             rewrite(alloc, &nothing, test, request)
         }
-    }
-}
-
-/// The fields after the edits, if there are some.
-pub(crate) fn edited_by(
-    alloc: Global,
-    edits: Option<&Edits>,
-    fields: Fields,
-) -> Result<Fields, NoMemory>
-    ensures { IfOk result (λ all. all ≡ rules.edited_by (option_copied edits.entry) fields) }
-{
-    match edits {
-        Some(edits) => edit(alloc, &fields, edits),
-        None => Ok(fields),
     }
 }
 

@@ -11,6 +11,6 @@ mod row;
 
 pub use books::Books;
 pub use chosen::{BackendKey, Chosen};
-pub use decision::{Action, Decision, Forward, Reply, decided};
+pub use decision::{Action, Decision, Forward, Reply};
 pub use reply::{fault_of, is_head, status_of, write_answer};
 pub use row::ServedRow;

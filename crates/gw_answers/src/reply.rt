@@ -1,10 +1,17 @@
 ghost use Rattle.std.specs.Prelude.{◌≡◌, IfOk};
+ghost use Rattle.gw_filters.specs.model.Editing.{edited};
+ghost use Rattle.gw_replies.specs.model.Hops.{passed_back};
+ghost use Rattle.gw_replies.specs.model.Written.{reply};
 ghost use Rattle.gw_answers.specs.model.Messages as rules;
 ghost use Rattle.gw_answers.specs.model.ServedRows as rows;
 
-use crate::forward::{edited_by, response_edits_in};
+use crate::forward::response_edits_in;
+use gw_filters::edit;
 use gw_frames::Request;
-use gw_replies::{BackendFault, FaultName, Response, passed_back, write_own, write_reply};
+use gw_replies::{
+    BackendFault, FaultName, Response, passed_back, write_own, write_reply, write_unedited_reply,
+};
+use gw_route::Edits;
 use gw_rows::Plan;
 use gw_text::{NoMemory, Text};
 use std::alloc::Global;
@@ -32,10 +39,10 @@ pub fn write_answer(
     ensures { IfOk result (λ text. text ≡ rules.reply_of plan.now answer head close) }
 {
     match answer {
-        Ok(response) => {
-            let edited = edited_response(alloc, plan, response)?;
-            write_reply(alloc, &edited, head, close)
-        }
+        Ok(response) => match response_edits_in(plan) {
+            Some(edits) => write_edited(alloc, edits, response, head, close),
+            None => write_unedited_reply(alloc, &response, head, close),
+        },
         Err(fault) => write_own(
             alloc,
             BAD_GATEWAY,
@@ -46,14 +53,20 @@ pub fn write_answer(
     }
 }
 
-// The response as it comes back to the client.
-fn edited_response(alloc: Global, plan: &Plan, response: Response) -> Result<Response, NoMemory>
-    ensures { IfOk result (λ r. r ≡ rules.edited_response plan.now response) }
+// The bytes of the response, with the fields that are passed back after the edits.
+fn write_edited(
+    alloc: Global,
+    edits: &Edits,
+    response: Response,
+    head: bool,
+    close: bool,
+) -> Result<Text, NoMemory>
+    ensures { IfOk result (λ text. text ≡ reply (record response { fields = edited edits.now (passed_back response.fields) }) head close) }
 {
     let passed = passed_back(alloc, &response.fields)?;
-    let mut edited = response;
-    edited.fields = edited_by(alloc, response_edits_in(plan), passed)?;
-    Ok(edited)
+    let mut response = response;
+    response.fields = edit(alloc, &passed, edits)?;
+    write_reply(alloc, &response, head, close)
 }
 
 /// The code of the reply for what a backend answered.

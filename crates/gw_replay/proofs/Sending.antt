@@ -4,8 +4,8 @@ use Rattle.std.proofs.lemmas.List.{length-set}
 use Rattle.std.specs.BTreeMap.{get_by_text}
 use Rattle.std.specs.Map.{update}
 use Rattle.gw_frames.specs.declared.ended.Ended.{Ended}
-use Rattle.gw_worker.specs.declared.take.Flow.{Flow}
-use Rattle.gw_worker.specs.declared.take.Flow.TheVariants as flows
+use Rattle.gw_worker.specs.declared.serve.Flow.{Flow}
+use Rattle.gw_worker.specs.declared.serve.Flow.TheVariants as flows
 use Rattle.gw_replay.specs.Replays.{Client as Plain, Sends, Serves, Site, State, place_at, unless_ended}
 use Rattle.gw_replay.specs.States.{Does, IsClient, Keeps, Matches, ServedBy, ServedFrom, ending_of, site_of}
 use Rattle.gw_replay.specs.declared.replay.Client.{Client}

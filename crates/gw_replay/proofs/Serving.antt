@@ -20,8 +20,8 @@ use Rattle.gw_worker.specs.Conns.{AreServed, AreWhole, IsAllOf, IsServing, Stand
 use Rattle.gw_worker.specs.Flows.{Flows, Served, Took, outside}
 use Rattle.gw_worker.specs.Workers.{Decided, IsAt}
 use Rattle.gw_worker.specs.declared.conn.Conn.{Conn}
-use Rattle.gw_worker.specs.declared.take.Flow.{Flow}
-use Rattle.gw_worker.specs.declared.take.Flow.TheVariants as flows
+use Rattle.gw_worker.specs.declared.serve.Flow.{Flow}
+use Rattle.gw_worker.specs.declared.serve.Flow.TheVariants as flows
 use Rattle.gw_worker.specs.declared.worker.Worker.{Worker}
 use Rattle.gw_worker.specs.model.Sessions.{Part, Place, a_close, a_cut, a_refused, a_request, a_wait, rows_of, step_of}
 use Rattle.gw_replay.specs.Lines.{end_text, rows_text, written_text}

@@ -14,8 +14,8 @@ use Rattle.gw_store.specs.declared.event.Entry.{Entry}
 use Rattle.gw_text.specs.model.Addresses.{Socket}
 use Rattle.gw_text.specs.model.Doors.{Door}
 use Rattle.gw_worker.specs.Conns.{IsServing, StandsFor}
-use Rattle.gw_worker.specs.declared.take.Flow.{Flow}
-use Rattle.gw_worker.specs.declared.take.Flow.TheVariants as flows
+use Rattle.gw_worker.specs.declared.serve.Flow.{Flow}
+use Rattle.gw_worker.specs.declared.serve.Flow.TheVariants as flows
 use Rattle.gw_worker.specs.declared.worker.Worker.{Worker}
 use Rattle.gw_replay.specs.Replays.{Client as Plain, IsAnswer, Runs, Serves, Site, State, place_at, with_order}
 use Rattle.gw_replay.specs.declared.replay.Client.{Client}

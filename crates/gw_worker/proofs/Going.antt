@@ -15,7 +15,7 @@ use Rattle.gw_text.specs.model.Addresses.{Socket}
 use Rattle.gw_text.specs.model.Doors.{Door}
 use Rattle.gw_worker.specs.Workers.{IsAt}
 use Rattle.gw_worker.specs.declared.conn.Conn.{Conn}
-use Rattle.gw_worker.specs.declared.take.Flow.{Flow}
+use Rattle.gw_worker.specs.declared.serve.Flow.{Flow}
 use Rattle.gw_worker.specs.declared.worker.Worker.{Worker}
 use Rattle.gw_worker.specs.model.Sessions.{Part, Place, rows_of, step_of, written}
 

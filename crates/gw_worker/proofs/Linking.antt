@@ -12,7 +12,7 @@ use Rattle.gw_worker.specs.declared.serve.TheConstants.{MOST_PIECE}
 use Rattle.gw_link.specs.Pieces.{Gives, IsAtEnd, Keeps, Takes}
 use Rattle.gw_exchange.proofs.Receiving.{empty_of}
 use Rattle.std.proofs.lemmas.List.{length-take-le}
-use Rattle.gw_worker.specs.declared.take.Flow.TheVariants as flows
+use Rattle.gw_worker.specs.declared.serve.Flow.TheVariants as flows
 use Rattle.gw_worker.proofs.Deciding.{begins_itself}
 use Rattle.gw_worker.proofs.Going.{served_then, took_and_broke, took_then}
 use Rattle.gw_worker.proofs.Turning.{settled, took_none}

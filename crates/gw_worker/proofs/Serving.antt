@@ -24,8 +24,8 @@ use Rattle.gw_worker.specs.declared.conn.Asked.{Asked}
 use Rattle.gw_worker.specs.declared.conn.Conn.{Conn}
 use Rattle.gw_worker.specs.declared.conn.Stage.{Stage}
 use Rattle.gw_worker.specs.declared.conn.Stage.TheVariants.{Reading, Asking, Answered, Ended as IsEnded}
-use Rattle.gw_worker.specs.declared.turn.Turn.{Turn}
-use Rattle.gw_worker.specs.declared.turn.Turn.TheVariants as turns
+use Rattle.gw_worker.specs.declared.conn.Turn.{Turn}
+use Rattle.gw_worker.specs.declared.conn.Turn.TheVariants as turns
 use Rattle.gw_worker.specs.model.Sessions.{Answer, Handled, Part, Place, a_close, a_cut, a_refused, a_request, a_wait, asks_behind, decision_at, is_last, reply_by, row_by, row_of, rows_of, step_of, written, written_behind}
 
 -- one thing more is served

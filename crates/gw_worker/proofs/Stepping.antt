@@ -15,8 +15,8 @@ use Rattle.gw_worker.specs.Turns.{IsActive, IsWrite, LeavesFewer, Says}
 use Rattle.gw_worker.specs.declared.conn.Conn.{Conn}
 use Rattle.gw_worker.specs.declared.conn.Stage.{Stage}
 use Rattle.gw_worker.specs.declared.conn.Stage.TheVariants.{Reading, Asking, Answered, Ended as IsEnded}
-use Rattle.gw_worker.specs.declared.turn.Turn.{Turn}
-use Rattle.gw_worker.specs.declared.turn.Turn.TheVariants as turns
+use Rattle.gw_worker.specs.declared.conn.Turn.{Turn}
+use Rattle.gw_worker.specs.declared.conn.Turn.TheVariants as turns
 use Rattle.gw_worker.specs.model.Sessions.{Part, Place, step_of}
 
 -- What an inlet's step says of what it stands for.

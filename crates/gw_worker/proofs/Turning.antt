@@ -32,9 +32,9 @@ use Rattle.gw_worker.specs.declared.conn.Stage.TheVariants.{Reading, Asking, Ans
 use Rattle.gw_frames.specs.declared.ended.Ended.{Ended}
 use Rattle.gw_snap.specs.Lists.{BeginsWith}
 use Rattle.gw_store.specs.declared.event.Entry.{Entry}
-use Rattle.gw_worker.specs.declared.take.Flow.TheVariants as flows
-use Rattle.gw_worker.specs.declared.turn.Turn.{Turn}
-use Rattle.gw_worker.specs.declared.turn.Turn.TheVariants as turns
+use Rattle.gw_worker.specs.declared.serve.Flow.TheVariants as flows
+use Rattle.gw_worker.specs.declared.conn.Turn.{Turn}
+use Rattle.gw_worker.specs.declared.conn.Turn.TheVariants as turns
 use Rattle.gw_worker.specs.declared.worker.Worker.{Worker}
 use Rattle.gw_worker.specs.model.Sessions.{Answer, Handled, Part, Place, a_close, a_cut, a_refused, a_request, a_wait, decision_at, row_by, row_of, rows_after, rows_of, step_of, written}
 

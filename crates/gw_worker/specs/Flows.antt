@@ -14,8 +14,8 @@ use Rattle.gw_worker.specs.Conns.{AreWhole, IsAllOf, IsSettled, StandsFor}
 use Rattle.gw_worker.specs.Exchanges.{AreRefused, Exchanged, HasRisenBy, IsExchanged, TellsAll, as_given, call_faults, is_call_fault}
 use Rattle.gw_worker.specs.Workers.{Decided, IsLeftOpen}
 use Rattle.gw_worker.specs.declared.conn.Conn.{Conn}
-use Rattle.gw_worker.specs.declared.take.Flow.{Flow}
-use Rattle.gw_worker.specs.declared.take.Flow.TheVariants as flows
+use Rattle.gw_worker.specs.declared.serve.Flow.{Flow}
+use Rattle.gw_worker.specs.declared.serve.Flow.TheVariants as flows
 use Rattle.gw_worker.specs.declared.worker.Worker.{Worker}
 use Rattle.gw_worker.specs.model.Sessions.{Answer, Part, Place, rows_of, step_of, written}
 

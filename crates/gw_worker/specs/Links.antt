@@ -17,7 +17,7 @@ use Rattle.gw_worker.specs.Flows.{BrokeOff, Outside, Served}
 use Rattle.gw_worker.specs.Workers.{Decided, IsLeftOpen}
 use Rattle.gw_worker.specs.declared.conn.Conn.{Conn}
 use Rattle.gw_worker.specs.declared.serve.TheConstants.{MOST_PIECE}
-use Rattle.gw_worker.specs.declared.take.Flow.TheVariants as flows
+use Rattle.gw_worker.specs.declared.serve.Flow.TheVariants as flows
 use Rattle.gw_worker.specs.declared.worker.Worker.{Worker}
 use Rattle.gw_worker.specs.model.Sessions.{Part, Place, rows_of, step_of, written}
 

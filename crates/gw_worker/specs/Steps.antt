@@ -7,7 +7,7 @@ use Rattle.gw_frames.specs.model.Requests.{Request}
 use Rattle.gw_worker.specs.Conns.{StandsFor}
 use Rattle.gw_worker.specs.Turns.{Says, text_of}
 use Rattle.gw_worker.specs.declared.conn.Conn.{Conn}
-use Rattle.gw_worker.specs.declared.turn.Turn.{Turn}
+use Rattle.gw_worker.specs.declared.conn.Turn.{Turn}
 use Rattle.gw_worker.specs.model.Sessions.{Handled, Part, Place, asks_behind, decision_at, is_last}
 
 -- All that the reply or the exchange of a request is made by.

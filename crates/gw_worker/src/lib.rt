@@ -2,17 +2,9 @@
 #![tactic(auto)]
 
 mod conn;
-mod fault;
-mod reply;
 mod serve;
-mod step;
-mod take;
-mod turn;
 mod worker;
 
-pub use conn::{Conn, Served};
-pub use fault::ConnFault;
-pub use serve::{Broken, Session, serve_proxy};
-pub use take::Flow;
-pub use turn::Turn;
+pub use conn::{Conn, Served, Turn};
+pub use serve::{Broken, ConnFault, Flow, Session, serve_proxy};
 pub use worker::Worker;

@@ -1,9 +1,10 @@
+//! Who serves connections, by the list of changes that is published.
 ghost use Rattle.std.specs.Prelude.{◌≡◌, ◌<◌, ◌⊎◌, [], length, IfOk, OnOk, OnErr};
 ghost use Rattle.gw_snap.specs.Lists.{BeginsWith};
 ghost use Rattle.gw_worker.specs.Workers.{Decides, handled_by, IsAt, IsLeftBy};
 ghost use Rattle.gw_worker.specs.model.Sessions.{decision_at, Place};
 
-use gw_answers::{Books, Decision, decided};
+use gw_answers::{Books, Decision};
 use gw_frames::Request;
 use gw_match::Tables;
 use gw_snap::{Note, OpenFault, Pass};
@@ -47,8 +48,8 @@ impl Worker {
         self.pass.learn(note)
     }
 
-    /// Decides a request at the door of this number by one view, and says by how many changes.
-    pub(crate) fn decide(
+    /// What is done about a request at the door of this number, by one view, and by how many changes.
+    pub(crate) fn decision(
         &mut self,
         alloc: Global,
         door: usize,
@@ -65,7 +66,7 @@ impl Worker {
         ensures place { result ≡ Err OpenFault.Place → ⊥ }
     {
         let view = self.pass.read()?;
-        let decision = decided(alloc, view.value.table(door), request, &mut self.books)?;
+        let decision = Decision::of(alloc, view.value.table(door), request, &mut self.books)?;
         Ok((view.front, decision))
     }
 }

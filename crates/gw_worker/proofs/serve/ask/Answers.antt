@@ -8,7 +8,7 @@ use Rattle.gw_link.specs.declared.order.UpstreamCall.{UpstreamCall}
 use Rattle.gw_text.specs.model.Addresses.{Socket}
 use Rattle.gw_worker.specs.Flows.{Meets, outside}
 use Rattle.gw_worker.proofs.Exchanging.{meets_by, tells_one}
-use Rattle.gw_worker.proofs.take.ask.Goals as goal
+use Rattle.gw_worker.proofs.serve.ask.Goals as goal
 
 pub returns-in-Ok-clause-met : goal.returns-in-Ok-clause-met
 returns-in-Ok-clause-met g c =

@@ -8,7 +8,7 @@ use Rattle.gw_worker.specs.Conns.{turns_left, turns_of}
 use Rattle.gw_worker.specs.Turns.{Continues, IsReply, IsWrite, LeavesFewer}
 use Rattle.gw_worker.specs.declared.conn.Conn.{Conn}
 use Rattle.gw_worker.specs.declared.conn.Stage.{Stage}
-use Rattle.gw_worker.specs.declared.turn.Turn.TheVariants as turns
+use Rattle.gw_worker.specs.declared.conn.Turn.TheVariants as turns
 use Rattle.gw_worker.specs.model.Sessions.{step_of}
 use Rattle.gw_worker.proofs.conn.Conn.next.Goals as goal
 

@@ -10,7 +10,7 @@ use Rattle.gw_worker.proofs.Turning.{took_none}
 use Rattle.gw_worker.specs.Conns.{StandsFor}
 use Rattle.gw_worker.specs.Flows.{BrokeOff, Outside, outside}
 use Rattle.gw_worker.specs.Workers.{IsAt}
-use Rattle.gw_worker.specs.declared.take.Flow.TheVariants as flows
+use Rattle.gw_worker.specs.declared.serve.Flow.TheVariants as flows
 use Rattle.gw_worker.specs.model.Sessions.{Part, Place}
 use Rattle.gw_worker.proofs.conn.Conn.serve.Goals as goal
 

@@ -11,8 +11,8 @@ use Rattle.gw_worker.proofs.Stepping.{Steps, active_no_need, behind_step, end_le
 use Rattle.gw_snap.specs.declared.fault.OpenFault.{OpenFault}
 use Rattle.gw_worker.specs.Turns.{IsActive}
 use Rattle.gw_worker.specs.declared.conn.Conn.{Conn}
-use Rattle.gw_worker.specs.declared.turn.Turn.{Turn}
-use Rattle.gw_worker.specs.declared.turn.Turn.TheVariants as turns
+use Rattle.gw_worker.specs.declared.conn.Turn.{Turn}
+use Rattle.gw_worker.specs.declared.conn.Turn.TheVariants as turns
 use Rattle.gw_worker.specs.model.Sessions.{a_close, a_cut, a_refused, a_wait, step_of}
 use Rattle.gw_worker.proofs.conn.Conn.step.Goals as goal
 
@@ -57,23 +57,23 @@ returns-in_err-announce-in-Continue-clause-inlet c =
     goes_by_step c.args.self.now.inlet c.next.new.self c.announce.new.self.inlet _ c.in_ok-next.ensures.stands (ap (λ (k : Conn). k.inlet) c.in_err-announce-in-Continue.ensures.same)
 
 pub returns-in-Ask-clause-goes : goal.returns-in-Ask-clause-goes
-returns-in-Ask-clause-goes c = ok_with c.decide.result (λ turn goes p bytes parts text at s.
+returns-in-Ask-clause-goes c = ok_with c.handle.result (λ turn goes p bytes parts text at s.
     goes p bytes parts text at
     (behind_step c.args.self.now c.next.new.self (steps.Ask c.in-Ask.request) (an_ask c.in-Ask.request) p bytes parts text (rw c.in-Ask.is at c.in_ok-next.ensures.stands) refl c.requires.reading s))
-    c.decide.ensures.goes
+    c.handle.ensures.goes
 
 pub returns-in-Ask-clause-unfinished : goal.returns-in-Ask-clause-unfinished
-returns-in-Ask-clause-unfinished c = λ is bytes fed. absurd (subst (λ (r : Result Turn OpenFault). IfOk r IsActive) is c.decide.ensures.active)
+returns-in-Ask-clause-unfinished c = λ is bytes fed. absurd (subst (λ (r : Result Turn OpenFault). IfOk r IsActive) is c.handle.ensures.active)
 
 pub returns-in-Ask-clause-fewer : goal.returns-in-Ask-clause-fewer
-returns-in-Ask-clause-fewer c = ok_with c.decide.result (λ turn active bytes fed.
+returns-in-Ask-clause-fewer c = ok_with c.handle.result (λ turn active bytes fed.
     let less = rw c.in-Ask.is at (c.in_ok-next.ensures.fewer bytes fed.0 fed.1) in
-    leaves_fewer c.args.self.now c.decide.new.self turn c.requires.reading
-    (subst (λ (k : Inlet). steps_left k < steps_left c.args.self.now.inlet) (sym c.decide.ensures.inlet) less))
-    c.decide.ensures.active
+    leaves_fewer c.args.self.now c.handle.new.self turn c.requires.reading
+    (subst (λ (k : Inlet). steps_left k < steps_left c.args.self.now.inlet) (sym c.handle.ensures.inlet) less))
+    c.handle.ensures.active
 
 pub returns-in-Ask-clause-inlet : goal.returns-in-Ask-clause-inlet
-returns-in-Ask-clause-inlet c = goes_by_step c.args.self.now.inlet c.next.new.self c.decide.new.self.inlet _ c.in_ok-next.ensures.stands c.decide.ensures.inlet
+returns-in-Ask-clause-inlet c = goes_by_step c.args.self.now.inlet c.next.new.self c.handle.new.self.inlet _ c.in_ok-next.ensures.stands c.handle.ensures.inlet
 
 pub returns-in_ok-refuse-in-Bad-clause-goes : goal.returns-in_ok-refuse-in-Bad-clause-goes
 returns-in_ok-refuse-in-Bad-clause-goes c = λ p bytes parts text at s.
@@ -141,12 +141,12 @@ returns-in_err-announce-in-Continue-clause-err c = on_err c.from_residual-in_err
 })
 
 pub returns-in-Ask-clause-err : goal.returns-in-Ask-clause-err
-returns-in-Ask-clause-err c = on_err_weaker c.decide.result (λ left p bytes parts text at s. record {
+returns-in-Ask-clause-err c = on_err_weaker c.handle.result (λ left p bytes parts text at s. record {
   steps = an_ask c.in-Ask.request ∷ [];
-  inlet = subst (λ (k : Inlet). InletStandsFor k bytes (map step_of parts ++ an_ask c.in-Ask.request ∷ [])) (sym c.decide.ensures.inlet)
+  inlet = subst (λ (k : Inlet). InletStandsFor k bytes (map step_of parts ++ an_ask c.in-Ask.request ∷ [])) (sym c.handle.ensures.inlet)
       (behind_step c.args.self.now c.next.new.self (steps.Ask c.in-Ask.request) (an_ask c.in-Ask.request) p bytes parts text (rw c.in-Ask.is at c.in_ok-next.ensures.stands) refl c.requires.reading s).inlet;
   left = record { left = left p at (sym s.door); once = inl refl };
-}) c.decide.ensures.err
+}) c.handle.ensures.err
 
 pub returns-in_err-refuse-in-Bad-clause-err : goal.returns-in_err-refuse-in-Bad-clause-err
 returns-in_err-refuse-in-Bad-clause-err c = on_err c.from_residual-in_err-refuse-in-Bad.result (λ p bytes parts text at s. record {

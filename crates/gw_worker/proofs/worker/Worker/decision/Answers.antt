@@ -8,17 +8,17 @@ use Rattle.gw_worker.proofs.Deciding.{table_is}
 use Rattle.gw_worker.specs.model.Sessions.{Place, no_rows}
 use Rattle.gw_worker.specs.Workers.{IsAt, IsLeftBy}
 use Rattle.gw_answers.proofs.Left.{on_err}
-use Rattle.gw_worker.proofs.worker.Worker.decide.Goals as goal
+use Rattle.gw_worker.proofs.worker.Worker.decision.Goals as goal
 
 pub returns-in_err-decision-clause-err : goal.returns-in_err-decision-clause-err
 returns-in_err-decision-clause-err c =
     let v = c.in_ok-view.ensures in
-    let left : (p : Place) → IsAt c.args.self.now p → p.door ≡ c.args.door → IsLeftBy p c.args.self.now (record { pass = c.read.new.self; books = c.decided.new.books }) c.args.request.now = λ p at door.
+    let left : (p : Place) → IsAt c.args.self.now p → p.door ≡ c.args.door → IsLeftBy p c.args.self.now (record { pass = c.read.new.self; books = c.of.new.books }) c.args.request.now = λ p at door.
     let is = table_is _ _ _ p _ _ _ v.tells (c.table.ensures no_rows ∙ ap (λ (t : Tables). get_or t.tables c.args.door no_rows) c.deref.ensures) v.value v.fixed at.doors at.controller door in
     record {
       later = v.later;
       fixed = v.fixed;
-      books = subst (λ (r : Rows). AreLeft c.args.self.now.books (books_after r c.args.request.now c.args.self.now.books) c.decided.new.books) is c.in_err-decision.ensures.err;
+      books = subst (λ (r : Rows). AreLeft c.args.self.now.books (books_after r c.args.request.now c.args.self.now.books) c.of.new.books) is c.in_err-decision.ensures.err;
     } in
     on_err _ left
 
