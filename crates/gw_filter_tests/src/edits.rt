@@ -1,5 +1,6 @@
 //! Edits of fields, by cases: the fields, what is set, what is added, the names that are removed, and the fields afterwards. A
-//! semicolon stands between fields, and a comma between names that are removed.
+//! semicolon stands between fields, and a comma between names that are removed. The rows show in which letters a name stands afterwards,
+//! which no command prints: what is written has names in lower case.
 use crate::rows::same;
 use gw_filters::edit;
 use gw_route::Edits;
@@ -8,53 +9,17 @@ use std::alloc::Global;
 use std::test::*;
 
 const EDITS: &str = r#"
-my-header:foo||my-header:bar,baz||my-header:foo,bar,baz
-a:1;b:2;a:3|a:9|b:4|c|a:9;b:2,4
-set-cookie:x||set-cookie:y||set-cookie:x;set-cookie:y
-a:1;b:2||||a:1;b:2
 a:1;A:2;a:1||||a:1;A:2;a:1
-||||
-a:1|b:2|||a:1;b:2
-|b:2|||b:2
-a:1;b:2;a:3;c:4;A:5|a:9|||a:9;b:2;c:4
 b:2;A:1;c:4;a:3|a:9|||b:2;A:9;c:4
 X-Name:1;b:2;x-name:3|x-NAME:9|||X-Name:9;b:2
-a:1;b:2|a:|||a:;b:2
-a:1|ab:9|||a:1;ab:9
-ab:1|a:9|||ab:1;a:9
-a:1;b:2|b:4;a:3|||a:3;b:4
-c:1|b:4;a:3|||c:1;b:4;a:3
 a:1|A:9;a:8|||a:9
 |b:1;B:2;c:3;b:4|||b:1;c:3
-a:1||b:2||a:1;b:2
-||b:2;a:1||b:2;a:1
-a:1;b:2;a:3;c:4||a:9||a:1;b:2;a:3,9;c:4
 a:1;b:2;A:3;c:4||a:9||a:1;b:2;A:3,9;c:4
 A:1||a:9||A:1,9
-a:||a:1||a:,1
-a:1||a:||a:1,
 a:1||A:9;a:8||a:1,9
 ||b:1;B:2||b:1
-a:1;b:2;A:3;c:4|||a|b:2;c:4
-a:1;a:2|||A,a|
-a:1;ab:2|||b|a:1;ab:2
-a:1;b:2;c:3;d:4|||d,b|a:1;c:3
-a:1;b:2|a:9|a:8|a|b:2
-a:1;b:2|a:9|a:8||a:9,8;b:2
 a:1;b:2;a:3|A:9|a:8||a:9,8;b:2
-|a:9|a:8||a:9,8
-|a:9|A:8|a|
-||a:8|a|
-a:1|b:3||b|a:1
-z:1;y:2;x:3;z:4;w:5|n:6;m:7|y:8;l:9|x|z:1;y:2,8;z:4;w:5;n:6;m:7;l:9
-set-cookie:x;set-cookie:y||set-cookie:z||set-cookie:x;set-cookie:y;set-cookie:z
 Set-Cookie:x;a:1||SET-COOKIE:y||Set-Cookie:x;a:1;SET-COOKIE:y
-||set-cookie:y||set-cookie:y
-set-cookie:x||set-cookie:y;Set-Cookie:z||set-cookie:x;set-cookie:y
-set-cookie:x;a:1;set-cookie:y|set-cookie:z|||set-cookie:z;a:1
-set-cookie:x|set-cookie:z|set-cookie:w||set-cookie:z;set-cookie:w
-set-cookie:x;a:1;Set-Cookie:y||set-cookie:z|set-cookie|a:1
-set-cookie2:x||set-cookie2:y||set-cookie2:x,y
 "#;
 
 fn field(alloc: Global, text: &str) -> Result<Field, Fail> {

