@@ -1,4 +1,4 @@
-//! What tests of rows and of what is done about requests share: worlds with Routes at a door, requests, and reasons as text.
+//! What tests of rows stand on: worlds with Routes at a door, requests, and reasons as text.
 #![tactic(auto)]
 
 mod reasons;
@@ -6,5 +6,5 @@ mod requests;
 mod worlds;
 
 pub use reasons::{explained, places_of};
-pub use requests::{part, request, same};
-pub use worlds::{controller, doors, row_count, table_of, with_lines, with_route, world_of};
+pub use requests::{part, same};
+pub use worlds::{row_count, with_route, world_of};

@@ -27,15 +27,6 @@ fn with_line(alloc: Global, world: World, line: &str, at: i64) -> Result<World, 
     Ok(world)
 }
 
-/// The world after these lines, which come at the moment 0.
-pub fn with_lines(alloc: Global, world: World, lines: &str) -> Result<World, Fail> {
-    let mut world = world;
-    for line in lines.trim().lines() {
-        take(alloc, &mut world, line, 0)?;
-    }
-    Ok(world)
-}
-
 /// A world with one Gateway, `d/g`, at these listeners.
 pub fn world_of(alloc: Global, listeners: &str) -> Result<World, Fail> {
     let gateway = format!(in alloc;
