@@ -1,14 +1,15 @@
-//! What is evaluated of one Gateway and of one Route, by their keys, over one world. No command makes these calls.
+//! What is evaluated of one Gateway and of one Route, by their keys, over one world: no command makes these calls. And what no command
+//! prints of the rows of a door: how many there are, the place of each one's hostname, and since when its Route is held.
 ghost use Rattle.std.specs.Prelude.{◌≡◌, ◌<◌};
 
 use gw_attach::Attachment;
-use gw_eval::{RouteResult, eval_gateway, eval_route};
+use gw_eval::{RouteResult, eval_gateway, eval_route, eval_rows};
 use gw_json::Refusal;
 use gw_route::BackendState;
-use gw_rows::Plan;
+use gw_rows::{Plan, Row};
 use gw_status::{GatewayStatus, ListenerStatus};
 use gw_store::{Read, World, read_event};
-use gw_text::{Doors, Key, NoMemory, Second, Steps, Text};
+use gw_text::{Door, Doors, Key, NoMemory, Second, Steps, Text};
 use std::alloc::Global;
 use std::marker::Brand;
 use std::sync::ledger::{Blank, Ledger};
@@ -27,11 +28,13 @@ const WORLD: &str = r#"
 {"type":"ADDED","object":{"apiVersion":"gateway.networking.k8s.io/v1","kind":"HTTPRoute","metadata":{"name":"r","namespace":"d"},"spec":{"parentRefs":[{"name":"u"},{"name":"g"},{"name":"g","sectionName":"b"}],"hostnames":["b.example.com"],"rules":[{"filters":[{"type":"RequestHeaderModifier","requestHeaderModifier":{"remove":["x"]}},{"type":"URLRewrite","urlRewrite":{}}],"backendRefs":[{"name":"s","port":80,"weight":3},{"namespace":"shop","name":"t","port":80},{"name":"gone","port":80,"weight":0}]},{"filters":[{"type":"RequestRedirect","requestRedirect":{}}]}]}}}
 {"type":"ADDED","object":{"apiVersion":"gateway.networking.k8s.io/v1","kind":"HTTPRoute","metadata":{"name":"n","namespace":"d"},"spec":{"parentRefs":[{"name":"g","sectionName":"z"}],"rules":[{"backendRefs":[{"name":"e","port":80},{"name":"h","port":443},{"kind":"Pod","name":"s"}]}]}}}
 {"type":"ADDED","object":{"apiVersion":"gateway.networking.k8s.io/v1","kind":"HTTPRoute","metadata":{"name":"o","namespace":"d"},"spec":{"parentRefs":[{"name":"u"}]}}}
+{"type":"ADDED","object":{"apiVersion":"gateway.networking.k8s.io/v1","kind":"HTTPRoute","metadata":{"name":"w","namespace":"d"},"spec":{"parentRefs":[{"name":"g"}]}}}
+{"type":"MODIFIED","object":{"apiVersion":"gateway.networking.k8s.io/v1","kind":"HTTPRoute","metadata":{"name":"w","namespace":"d"},"spec":{"parentRefs":[{"name":"g"},{"name":"g","sectionName":"a"},{"name":"g","port":80}],"hostnames":["*.c","a.b.c","*.c"],"rules":[{}]}}}
 "#;
 
 // The key of a Gateway, and the number of Routes at each of its listeners.
 const GATEWAYS: &str = "
-d/g a=1 b=1
+d/g a=2 b=1
 d/u none
 d/x none
 ";
@@ -42,24 +45,36 @@ const ROUTES: &str = "
 d/r 2 | Accepted 0 1 | Accepted 1 | rule Ready NotPermitted NotFound | rule
 d/n 1 | NoMatchingParent | rule NoEndpoints BadProtocol InvalidKind
 d/o 0 | rule
+d/w 3 | Accepted 0 | Accepted 0 | Accepted 0 | rule
 d/x none
 ";
 
-// Does what a line says.
-fn take(alloc: Global, world: &mut World, line: &str) -> Result<(), Refusal> {
+// The rows of the door for the listener `a`: the Route, the line that first put it, and the places of the rule, the match and the
+// hostname. A parent or a hostname that stands twice makes no second row.
+const ROWS: &str = "
+d/r 9 0 0 0
+d/r 9 1 0 0
+d/w 12 0 0 0
+d/w 12 0 0 1
+";
+
+// Does what a line says, at this moment.
+fn take(alloc: Global, world: &mut World, line: &str, at: Second) -> Result<(), Refusal> {
     let Read::Change(event) = read_event(alloc, line.as_bytes())? else {
         return Err(Refusal::NotEvent);
     };
     world.check(&event)?;
     world.reserve()?;
-    world.put(event, Second(0));
+    world.put(event, at);
     Ok(())
 }
 
 fn world(alloc: Global) -> Result<World, Fail> {
     let mut world = World::new(alloc);
+    let mut at = 0i64;
     for line in WORLD.trim().lines() {
-        take(alloc, &mut world, line)?;
+        take(alloc, &mut world, line, Second(at))?;
+        at = at.saturating_add(1);
     }
     Ok(world)
 }
@@ -80,7 +95,10 @@ fn tell_listener(
     text: &mut String,
 ) -> Result<(), NoMemory> {
     let name = listener.name.printed(alloc)?;
-    add(text, format!(in alloc; "{name}={}", listener.attached)?.as_str())
+    add(
+        text,
+        format!(in alloc; "{name}={}", listener.attached)?.as_str(),
+    )
 }
 
 fn told_gateway(alloc: Global, status: &GatewayStatus) -> Result<String, NoMemory> {
@@ -177,6 +195,46 @@ fn gateway_told(alloc: Global, world: &World, key: &Key) -> Result<String, NoMem
 
 fn route_told(alloc: Global, world: &World, key: &Key) -> Result<String, NoMemory> {
     route::<Brand>(alloc, world, key, Blank::new(1))
+}
+
+fn tell_row(alloc: Global, row: &Row, text: &mut String) -> Result<(), NoMemory> {
+    let key = printed(alloc, &row.key)?;
+    let places = format!(in alloc; "{} {} {}", row.rule, row.place, row.host_place)?;
+    text.push_str(format!(in alloc; "{key} {} {places}\n", row.created.0)?.as_str())
+}
+
+fn told_rows(alloc: Global, rows: &[Row]) -> Result<String, NoMemory> {
+    let mut text = String::new(alloc);
+    for row in rows {
+        tell_row(alloc, row, &mut text)?;
+    }
+    Ok(text)
+}
+
+fn door_rows(alloc: Global, world: &World, doors: &Doors) -> Result<String, Fail> {
+    if doors.doors().is_empty() {
+        return Err(Fail::from("there is a door"));
+    }
+    let controller = Text::of(alloc, "example.com/gateward")?;
+    let rows = eval_rows(alloc, world, doors, &controller, 0)?;
+    Ok(told_rows(alloc, rows.rows())?)
+}
+
+fn doors(alloc: Global) -> Result<Doors, Fail> {
+    let mut doors = Vec::new(alloc);
+    doors.push(Door::parse(alloc, "d/g:80=127.0.0.1:18080")?)?;
+    match Doors::new(alloc, doors) {
+        Ok(doors) => Ok(doors),
+        Err(_) => Err(Fail::from("one door breaks no rule")),
+    }
+}
+
+#[test]
+fn rows_of_a_door(rt: HostRuntime) -> Result<(), Fail> {
+    let world = world(rt.alloc())?;
+    let doors = doors(rt.alloc())?;
+    let told = door_rows(rt.alloc(), &world, &doors)?;
+    expect(rt.alloc(), told, ROWS.trim_start())
 }
 
 // The key that a row begins with.
