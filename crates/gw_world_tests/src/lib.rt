@@ -1,10 +1,6 @@
-//! Tests of events, the world and the text of statuses, over public calls. They stand alone, since a crate with tests is
+//! Tests of the world, over public calls: what no command prints of it. They stand alone, since a crate with tests is
 //! proved twice.
 #![tactic(auto)]
 
-#[cfg(test)]
-mod events;
-#[cfg(test)]
-mod statuses;
 #[cfg(test)]
 mod worlds;

@@ -1,10 +1,9 @@
-//! What the world holds after lines: the objects of each kind in key order, with their first moments, and no more of them
-//! than there is room for.
+//! What the world holds after lines: the objects of each kind in key order, with their generations and first moments.
 use gw_json::Refusal;
 use gw_objects::{EndpointSlice, Gateway, GatewayClass, Namespace, ReferenceGrant, Service};
 use gw_route::HttpRoute;
-use gw_store::{Event, Kind, Object, Read, World, read_event};
-use gw_text::{Incoming, Key, Meta, Name, Second, Stored, Text, TextFault};
+use gw_store::{Event, Kind, Read, World, read_event};
+use gw_text::{Key, Meta, Name, Second, Stored, Text, TextFault};
 use std::alloc::{AllocError, Global};
 use std::test::*;
 
@@ -58,22 +57,6 @@ const NAMESPACES: &[(&str, &str)] = &[
     ("b", ""),
     ("w", ""),
 ];
-
-// An event, the namespace and name of its slice, the Service that its label names, or `-`, and the slices of the Service
-// `a/s` that are held after it.
-const SERVICE_STEPS: &str = "
-ADDED a w s w
-ADDED b w s w
-ADDED a y t w
-ADDED a x s w,x
-MODIFIED a y s w,x,y
-MODIFIED a w - x,y
-ADDED a v s v,x,y
-MODIFIED a x s v,x,y
-DELETED a v - x,y
-DELETED a y - x
-DELETED b w - x
-";
 
 // Fields for all kinds: those that a kind doesn't have aren't read.
 const FIELDS: &str =
@@ -305,149 +288,3 @@ fn objects_of_each_kind(rt: HostRuntime) -> Result<(), Fail> {
     }
     Ok(())
 }
-
-// The line of an event on a slice.
-fn slice_line(
-    alloc: Global,
-    sort: &str,
-    namespace: &str,
-    name: &str,
-    service: &str,
-) -> Result<String, AllocError> {
-    let labels = if service == "-" {
-        String::new(alloc)
-    } else {
-        format!(in alloc; r#""kubernetes.io/service-name":"{service}""#)?
-    };
-    format!(in alloc;
-        r#"{{"type":"{sort}","object":{{"apiVersion":"discovery.k8s.io/v1","kind":"EndpointSlice","metadata":{{"namespace":"{namespace}","name":"{name}","labels":{{{labels}}}}},{FIELDS}}}}}"#
-    )
-}
-
-fn names_of(alloc: Global, slices: &[&EndpointSlice]) -> Result<String, AllocError> {
-    let mut names = String::new(alloc);
-    for slice in slices {
-        if !names.is_empty() {
-            names.push(',')?;
-        }
-        let name = slice.meta.key.name.printed(alloc)?;
-        names.push_str(name.as_str())?;
-    }
-    Ok(names)
-}
-
-// The step leaves the slices of the Service that its row says.
-fn leaves(alloc: Global, world: &mut World, service: &Key, row: &str) -> Result<bool, Fail> {
-    let mut words = row.split(' ');
-    let (Some(sort), Some(namespace), Some(name), Some(label), Some(held)) = (
-        words.next(),
-        words.next(),
-        words.next(),
-        words.next(),
-        words.next(),
-    ) else {
-        return Err(Fail::from("a step has five words"));
-    };
-    let line = slice_line(alloc, sort, namespace, name, label)?;
-    take(alloc, world, line.as_str(), Second(0))?;
-    let slices = world.slices_of(alloc, service)?;
-    let told = names_of(alloc, slices.as_slice())?;
-    Ok(told.as_str() == held)
-}
-
-#[test]
-fn slices_of_a_service(rt: HostRuntime) -> Result<(), Fail> {
-    let alloc = rt.alloc();
-    let mut world = World::new(alloc);
-    let service = Key::parse(alloc, "a/s")?;
-    for row in SERVICE_STEPS.trim().lines() {
-        if !leaves(alloc, &mut world, &service, row)? {
-            return Err(Fail::new(format!(in alloc; "{row}")?));
-        }
-    }
-    Ok(())
-}
-
-// The key of the Route of that number.
-fn route_key(alloc: Global, number: usize) -> Result<Key, TextFault> {
-    Key::parse(alloc, format!(in alloc; "default/r{number}")?.as_str())
-}
-
-// Puts an empty Route of that number.
-fn put_route(alloc: Global, number: usize) -> Result<Event, TextFault> {
-    let meta = Meta {
-        key: route_key(alloc, number)?,
-        created: None,
-        generation: 1,
-    };
-    let route = HttpRoute {
-        meta,
-        parent_refs: Vec::new(alloc),
-        hostnames: Vec::new(alloc),
-        rules: Vec::new(alloc),
-    };
-    Ok(Event::Put(Object::HttpRoute(Incoming::new(alloc, route)?)))
-}
-
-fn remove_route(alloc: Global, number: usize) -> Result<Event, TextFault> {
-    Ok(Event::Remove(Kind::HttpRoute, route_key(alloc, number)?))
-}
-
-// The number of the refusal, or 0 where the event is taken.
-fn answer(world: &mut World, event: Event) -> u8 {
-    match take_event(world, event, Second(0)) {
-        Ok(()) => 0,
-        Err(refusal) => refusal.number(),
-    }
-}
-
-// A world of as many Routes as there can be, with the numbers from 10,000 on.
-fn full_world(alloc: Global) -> Result<World, TextFault> {
-    let mut world = World::new(alloc);
-    for number in 10_000..26_384 {
-        answer(&mut world, put_route(alloc, number)?);
-    }
-    Ok(world)
-}
-
-// On a full world: whether the Route of a number is put or removed, and the number of the refusal, or 0. A Route more is
-// refused, one that is held is replaced, and one has room where another went.
-const WHERE_FULL: &[(bool, usize, u8)] = &[
-    (true, 26_384, 7),
-    (true, 20_000, 0),
-    (false, 26_384, 0),
-    (true, 26_384, 7),
-    (false, 10_000, 0),
-    (true, 26_384, 0),
-    (true, 10_000, 7),
-];
-
-fn take_row(alloc: Global, world: &mut World, row: &(bool, usize, u8)) -> Result<(), Fail> {
-    let (puts, number, wanted) = *row;
-    let event = match puts {
-        true => put_route(alloc, number)?,
-        false => remove_route(alloc, number)?,
-    };
-    let given = answer(world, event);
-    if given != wanted {
-        return Err(Fail::new(format!(in alloc; "{number}: {given}")?));
-    }
-    Ok(())
-}
-
-// Other objects have room.
-#[test]
-fn at_most_16384_routes(rt: HostRuntime) -> Result<(), Fail> {
-    let alloc = rt.alloc();
-    let mut world = full_world(alloc)?;
-    assert!(rt; world.routes().len() == 16_384);
-    for row in WHERE_FULL {
-        take_row(alloc, &mut world, row)?;
-    }
-    take(alloc, &mut world, SERVICE, Second(0))?;
-    assert!(rt; world.routes().len() == 16_384);
-    Ok(())
-}
-
-const SERVICE: &str =
-    r#"{"type":"ADDED","object":{"apiVersion":"v1","kind":"Service","metadata":{"name":"s"},"spec":{}}}"#;
