@@ -1,75 +1,8 @@
-//! Lines, values, fields with their paths, and printed lines.
+//! Values, fields with their paths, and printed lines.
 use gw_json::{Cursor, Number64, Path, Port, Refusal, Truth, push_line, read_value};
 use serde_json::json;
 use std::alloc::{AllocError, Global};
 use std::test::*;
-
-// The number of the refusal of a line, or 0 where it is read.
-fn answer(alloc: Global, line: &[u8]) -> u8 {
-    match read_value(alloc, line) {
-        Ok(_) => 0,
-        Err(refusal) => refusal.number(),
-    }
-}
-
-// Lines that are read.
-const LINES: &[&[u8]] = &[
-    b"{\"a\":[1,2.5e3,\"\\u00e9\"]}",
-    b" \t\"\xc3\xa9\"\r\n",
-    b"-0.0",
-];
-
-// Lines that are no JSON.
-const NO_LINES: &[&[u8]] = &[
-    b"",
-    b" \t\r",
-    b"\xef\xbb\xbf{}",
-    b"080",
-    b"1e999",
-    b"{\"a\":1,}",
-    b"{} {}",
-    b"\"\\ud800\"",
-    b"\"\xff\"",
-    b"{\"a\":\"\xc3\"}",
-];
-
-#[test]
-fn lines(rt: HostRuntime) {
-    for (row, line) in LINES.iter().enumerate() {
-        assert!(rt; answer(rt.alloc(), line) == 0, "row {row}");
-    }
-    for (row, line) in NO_LINES.iter().enumerate() {
-        assert!(rt; answer(rt.alloc(), line) == 1, "row {row}");
-    }
-}
-
-// The answer to so many lists in one another.
-fn answer_nested(alloc: Global, depth: usize) -> Result<u8, AllocError> {
-    let mut line = "[".repeat(alloc, depth)?;
-    line.push_str("]".repeat(alloc, depth)?.as_str())?;
-    Ok(answer(alloc, line.as_bytes()))
-}
-
-#[test]
-fn nested_lines(rt: HostRuntime) -> Result<(), Fail> {
-    assert!(rt; answer_nested(rt.alloc(), 127)? == 0);
-    assert!(rt; answer_nested(rt.alloc(), 128)? == 1);
-    Ok(())
-}
-
-#[test]
-fn long_lines(rt: HostRuntime) -> Result<(), Fail> {
-    let alloc = rt.alloc();
-    let mut line = "\"".repeat(alloc, 1)?;
-    line.push_str("a".repeat(alloc, 1_048_574)?.as_str())?;
-    line.push('"')?;
-    assert!(rt; answer(alloc, line.as_bytes()) == 0);
-    // A line too many bytes long isn't read, whatever it holds.
-    line.push('"')?;
-    let told = told(alloc, line.as_bytes(), "")?;
-    assert!(rt; told.as_str() == "6 line");
-    Ok(())
-}
 
 // A whole number from 2 to 4.
 const FROM_2_TO_4: Number64 = Number64 { least: 2, most: 4 };

@@ -13,8 +13,6 @@ mod labels;
 #[cfg(test)]
 mod link;
 #[cfg(test)]
-mod paths;
-#[cfg(test)]
 mod texts;
 #[cfg(test)]
 mod weights;
