@@ -18,6 +18,9 @@ pub const MOST_GIVEN: usize = 67_108_864;
 /// The most bytes that one `receive` is asked for.
 pub const MOST_PIECE: usize = 8192;
 
+/// How many bytes the first `receive` is asked for. Most responses have no more, and a larger buffer takes longer to clear than they to read.
+const FIRST_PIECE: usize = 1024;
+
 /// One exchange with the backend at the socket: opens a connection, sends all bytes, receives until the response is whole, and
 /// closes. The response is one to HEAD where `head` is true.
 pub fn exchange<U: Upstream>(
@@ -81,11 +84,15 @@ fn receive_response<U: Upstream>(
     ensures goes { U.becomes up.old up.new }
 {
     let mut reader = ReplyReader::new(alloc, head);
-    receive_by(up, &mut reader)
+    receive_by(alloc, up, &mut reader)
 }
 
 // Receives until the reader, to which nothing came yet, has the response.
-fn receive_by<U: Upstream>(up: &mut U, reader: &mut ReplyReader) -> Result<Response, ExchangeFault>
+fn receive_by<U: Upstream>(
+    alloc: Global,
+    up: &mut U,
+    reader: &mut ReplyReader,
+) -> Result<Response, ExchangeFault>
     requires connected { is_some (U.at up.old) ≡ true }
     requires stands { StandsFor reader.old.to_head reader.old [] None }
     requires unended { reader.old.over ≡ false }
@@ -95,10 +102,12 @@ fn receive_by<U: Upstream>(up: &mut U, reader: &mut ReplyReader) -> Result<Respo
     ensures later { U.faults up.old ≤ U.faults up.new }
     ensures goes { U.becomes up.old up.new }
 {
-    let mut buffer = [0; MOST_PIECE];
+    let mut first = [0; FIRST_PIECE];
+    let mut more = Vec::new(alloc);
     let mut given = 0;
     'pieces: loop {
-        let size = match up.receive(&mut buffer) {
+        let buffer = buffer_of(&mut first, &mut more, given);
+        let size = match up.receive(buffer) {
             Ok(size) => size,
             Err(_) => return Err(ExchangeFault::Backend(BackendFault::Receive)),
         };
@@ -110,6 +119,19 @@ fn receive_by<U: Upstream>(up: &mut U, reader: &mut ReplyReader) -> Result<Respo
             Err(_) => return Err(ExchangeFault::NoMemory),
         }
     }
+}
+
+// The buffer for the next piece: the small one, and once something came the large one, if there is memory for it.
+fn buffer_of<'b>(first: &'b mut [u8], more: &'b mut Vec<u8>, given: usize) -> &'b mut [u8]
+    requires any { 0 < length first.old }
+    requires few { length first.old ≤ MOST_PIECE }
+    ensures any { 0 < length result.now }
+    ensures few { length result.now ≤ MOST_PIECE }
+{
+    if given > 0 && more.resize(MOST_PIECE, 0).is_ok() {
+        return more.as_mut_slice();
+    }
+    first
 }
 
 // What the bytes of a response come to with this piece behind them; an empty piece is their end.
