@@ -1,12 +1,8 @@
-//! What tests of messages share: bytes in the written form of their tables, and what framing gives of bytes, as text.
+//! What tests and benchmarks of messages share: bytes in the written form of tables, bytes as characters, and the request that bytes begin with.
 #![tactic(auto)]
 
 mod connection;
-mod reply;
 mod rows;
-mod trailers;
 
-pub use connection::{Connection, request, steps};
-pub use reply::{Reply, outcome};
-pub use rows::{column, equal_pieces, is_over, repeated, show, written};
-pub use trailers::TRAILERS;
+pub use connection::request;
+pub use rows::{column, show, written};
