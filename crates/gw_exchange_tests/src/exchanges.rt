@@ -1,10 +1,8 @@
-//! What exchanges come to: by what the backend gives, in pieces of any size, and by each call that fails.
-ghost use Rattle.std.specs.Prelude.{◌<◌};
-
+//! What exchanges come to by each call that fails, with the exchanges that are told.
 use gw_exchange::{ExchangeFault, exchange};
 use gw_link::{MemUpstream, Order, UpstreamCall};
 use gw_replies::BackendFault;
-use gw_text::{NoMemory, Socket};
+use gw_text::Socket;
 use std::alloc::Global;
 use std::test::*;
 
@@ -18,91 +16,6 @@ const AT: Socket = Socket {
 
 const REQUEST: &[u8; 28] = b"GET / HTTP/1.1\r\nhost: xy\r\n\r\n";
 
-// What the backend gives, whether the request was HEAD, and what that comes to: a code and a body, or a fault.
-const ANSWERS: &[(&[u8], bool, Result<(u16, &[u8]), BackendFault>)] = &[
-    (
-        b"HTTP/1.1 200 OK\r\ncontent-length: 5\r\n\r\nhello",
-        false,
-        Ok((200, b"hello")),
-    ),
-    (
-        b"HTTP/1.1 200 OK\r\ncontent-length: 1\r\n\r\nxyz",
-        false,
-        Ok((200, b"x")),
-    ),
-    (
-        b"HTTP/1.0 404 Not Found\r\n\r\nto the end",
-        false,
-        Ok((404, b"to the end")),
-    ),
-    (
-        b"HTTP/1.1 200 OK\r\ntransfer-encoding: chunked\r\n\r\n3\r\nabc\r\n0\r\n\r\n",
-        false,
-        Ok((200, b"abc")),
-    ),
-    (
-        b"HTTP/1.1 200 OK\r\ncontent-length: 5\r\n\r\n",
-        true,
-        Ok((200, b"")),
-    ),
-    (
-        b"HTTP/1.1 204 No Content\r\ncontent-length: 5\r\n\r\n",
-        false,
-        Ok((204, b"")),
-    ),
-    (
-        b"HTTP/1.1 103 Early Hints\r\n\r\nHTTP/1.1 200 OK\r\ncontent-length: 1\r\n\r\nx",
-        false,
-        Ok((200, b"x")),
-    ),
-    (
-        b"HTTP/1.1 200 OK\r\ncontent-length: 5\r\n\r\nabc",
-        false,
-        Err(BackendFault::Cut),
-    ),
-    (b"", false, Err(BackendFault::Cut)),
-    (b"HTTP/1.1 200 OK\r\n", false, Err(BackendFault::Cut)),
-    (
-        b"HTTP/1.1 103 Early Hints\r\n\r\n",
-        false,
-        Err(BackendFault::Cut),
-    ),
-    (
-        b"HTTP/1.1 101 Switching Protocols\r\n\r\n",
-        false,
-        Err(BackendFault::Head),
-    ),
-    (b"hello\r\n\r\n", false, Err(BackendFault::Head)),
-    (
-        b"HTTP/1.1 200 OK\r\ncontent-length: 3\r\ntransfer-encoding: chunked\r\n\r\n",
-        false,
-        Err(BackendFault::Body),
-    ),
-    (
-        b"HTTP/1.1 200 OK\r\ntransfer-encoding: chunked\r\n\r\nno\r\n",
-        false,
-        Err(BackendFault::Body),
-    ),
-    (
-        b"HTTP/1.1 200 OK\r\ntransfer-encoding: chunked\r\n\r\n3\r\nab",
-        false,
-        Err(BackendFault::Cut),
-    ),
-];
-
-// A backend that gives these bytes and so many more, in pieces of at most so many.
-fn backend(alloc: Global, bytes: &[u8], fill: usize, most: usize) -> Result<MemUpstream, NoMemory>
-    requires { 0 < most }
-{
-    let mut answer = bytes.to_vec(alloc)?;
-    for _ in 0..fill {
-        answer.push(b'x')?;
-    }
-    let mut up = MemUpstream::new(alloc, Vec::new(alloc)).at_most(most);
-    up.order(Order::Answers(AT, answer))?;
-    Ok(up)
-}
-
 // What an exchange comes to, and of how many bytes the body is.
 fn outcome(
     alloc: Global,
@@ -114,52 +27,6 @@ fn outcome(
         Ok(body) => Ok((response.code, body)),
         Err(_) => Err(ExchangeFault::NoMemory),
     }
-}
-
-fn is_wanted(
-    came: &Result<(u16, Vec<u8>), ExchangeFault>,
-    wanted: &Result<(u16, &[u8]), BackendFault>,
-) -> bool {
-    match (came, wanted) {
-        (Ok((code, body)), Ok((other, bytes))) => code == other && body.as_slice() == *bytes,
-        (Err(ExchangeFault::Backend(fault)), Err(other)) => fault == other,
-        _ => false,
-    }
-}
-
-#[test]
-fn an_exchange_comes_to_what_is_given(rt: HostRuntime) -> Result<(), Fail> {
-    for (answer, head, wanted) in ANSWERS {
-        for most in [1, 2, 3, 7, 16, 64, 8192] {
-            let mut up = backend(rt.alloc(), answer, 0, most)?;
-            let came = outcome(rt.alloc(), &mut up, *head);
-            assert!(rt; is_wanted(&came, wanted), "{answer:?} by {most}");
-            assert!(rt; up.exchanges().len() == 1 && up.faults() == 0);
-            if let Some(told) = up.exchanges().first() {
-                assert!(rt; told.to == AT && told.sent.as_slice() == REQUEST.as_slice());
-            }
-        }
-    }
-    Ok(())
-}
-
-fn is_sized(came: &Result<(u16, Vec<u8>), ExchangeFault>, size: usize) -> bool {
-    match came {
-        Ok((code, body)) => *code == 200 && body.len() == size,
-        Err(_) => false,
-    }
-}
-
-#[test]
-fn a_body_has_at_most_8388608_bytes(rt: HostRuntime) -> Result<(), Fail> {
-    let alloc = rt.alloc();
-    let mut up = backend(alloc, b"HTTP/1.1 200 OK\r\n\r\n", 8388608, 8192)?;
-    let whole = outcome(alloc, &mut up, false);
-    assert!(rt; is_sized(&whole, 8388608));
-    let mut up = backend(alloc, b"HTTP/1.1 200 OK\r\n\r\n", 8388609, 8192)?;
-    let big = outcome(alloc, &mut up, false);
-    assert!(rt; big.err() == Some(ExchangeFault::Backend(BackendFault::TooBig)));
-    Ok(())
 }
 
 #[test]
