@@ -4,16 +4,16 @@
   ../messages.py requests|responses input|text
 
 It is called in the folder of a case, and reads the table `rows` there: each line is a message in the written form, a `|`, and by hand what
-it gives. In that form `^` stands for CR LF, `\\r`, `\\n`, `\\t` and `\\0` for what they say, `\\x0b` for a byte in two hexadecimal digits, `\\p`
-for `|`, and `~` for what the line `~ = ..` of the table has. A row of five columns is a text, one that comes so often, how often, a text
+it gives. In that form `^` stands for CR LF, `\\r`, `\\n`, `\\t` and `\\0` for what they say, `\\x0b` for a byte in two hexadecimal digits,
+and `~` for what the line `~ = ..` of the table has. A row of five columns is a text, one that comes so often, how often, a text
 behind it, and what they give. Lines with `# ` say where the rows below them come from, and are passed over.
 
 What a row gives is compared with the second evaluation of the same bytes, so `text` ends with 1 where the two differ.
 
 Requests: each is told by its method, its target and its host as they are sent on, and its body; `continue` is the answer 100; and the last
 word is how the connection ends when the client ends it behind the row: `closed`, `truncated`, `asked`, `enough` or the code of a refusal.
-Each row comes whole, byte by byte, and cut in two at each place; a `~` isn't cut. A row of five columns comes whole, in pieces of 1,460
-or 65,536 bytes, and with its last 24 bytes one by one.
+Each row comes whole, byte by byte, and cut in two at each place; a `~` isn't cut. A row of five columns comes whole and in
+pieces of 1,460 bytes, or else in pieces of 65,536; and with its last 24 bytes one by one.
 
 Responses: each is told by its code, its phrase, the content-length that the client gets or `-`, and its body; or by its fault. A `!` in front
 is a response to HEAD. The backend's bytes are read in pieces of 8,192 at most: so each row comes alone, and behind interim responses of such
@@ -32,8 +32,8 @@ event {"type":"ADDED","object":{"apiVersion":"discovery.k8s.io/v1","kind":"Endpo
 publish"""
 
 PHRASES = {400: "Bad Request", 413: "Content Too Large", 431: "Request Header Fields Too Large", 501: "Not Implemented", 502: "Bad Gateway"}
-# Of a line of the script at most, which has a limit of its own.
-MOST_SENT = 524288
+# The most bytes of one `send` of a long row: a line of a script has a limit.
+MOST_SENT = 65536
 MOST_HEAD, MOST_FIELDS, MOST_LINE, MOST_TRAILERS = 16384, 100, 1024, 16384
 PATH, QUERY = rb"/[^<>#`?]*", rb'\?[^"<>#]*'
 TOKEN = rb"[!#$%&'*+.^_`|~0-9A-Za-z-]+"
@@ -360,7 +360,7 @@ class Script:
 
 def written(text):
     """The bytes of the written form."""
-    plain = {"^": b"\r\n", "\\r": b"\r", "\\n": b"\n", "\\t": b"\t", "\\0": b"\0", "\\p": b"|"}
+    plain = {"^": b"\r\n", "\\r": b"\r", "\\n": b"\n", "\\t": b"\t", "\\0": b"\0"}
     parts = re.findall(r"\\x[0-9a-f]{2}|\\.|.", text, re.S)
     return b"".join(plain.get(part) or (bytes([int(part[2:], 16)]) if part.startswith("\\x") else part.encode("latin-1")) for part in parts)
 
@@ -399,11 +399,13 @@ def requests(script):
     for line, front, data, is_long, wanted in rows():
         whole = front + data
         fail_unless(line, told_steps(steps(whole, True)), wanted)
-        script.connection("whole", pieces_of(whole, MOST_SENT))
         if is_long:
-            script.connection("pieces", pieces_of(whole, 1460 if len(whole) < 100000 else 65536))
+            if len(whole) < MOST_SENT:
+                script.connection("whole", [whole])
+                script.connection("pieces", pieces_of(whole, 1460))
             script.connection("bytes", pieces_of(whole[:-24], MOST_SENT) + pieces_of(whole[-24:], 1))
             continue
+        script.connection("whole", [whole] if whole else [])
         script.connection("bytes", joined(front, pieces_of(data, 1)))
         for place in range(0 if front else 1, len(data)):
             script.connection("cut", [front + data[:place], data[place:]])
