@@ -10,7 +10,8 @@ import random
 import sys
 
 sys.dont_write_bytecode = True
-from messages import Script, fail_unless, interim, response_in, shown, steps, told_response, told_steps, written  # noqa: E402
+from messages import (FIRST_READ, SECOND_READ, Script, fail_unless, interim, response_in, shown, steps, told_response,  # noqa: E402
+                      told_steps, written)
 
 # Whole requests, and the steps that each gives.
 REQUESTS = """
@@ -149,8 +150,9 @@ def responses(script):
         fail_unless("seed %d" % seed, told_response(response_in(data, False)), told)
         for name, to_head in ("whole%d" % seed, False), ("broken%d" % seed, bool(draw.randrange(2))):
             given = broken(draw, data) if name.startswith("broken") else data
-            # A read of 8,192 bytes ends inside of them.
-            for front in b"", interim(8192 - draw.randrange(1 + len(given))):
+            # The second read, and for short ones the first, ends inside of them.
+            end = FIRST_READ if len(given) < 1000 and seed % 2 else SECOND_READ
+            for front in b"", interim(end - draw.randrange(1 + len(given))):
                 script.backend(front + given)
                 script.connection(name, [b"%s / HTTP/1.1\r\nHost: x\r\n\r\n" % (b"HEAD" if to_head else b"GET")])
 

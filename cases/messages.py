@@ -16,8 +16,8 @@ Each row comes whole, byte by byte, and cut in two at each place; a `~` isn't cu
 pieces of 1,460 bytes, or else in pieces of 65,536; and with its last 24 bytes one by one.
 
 Responses: each is told by its code, its phrase, the content-length that the client gets or `-`, and its body; or by its fault. A `!` in front
-is a response to HEAD. The backend's bytes are read in pieces of 8,192 at most: so each row comes alone, and behind interim responses of such
-lengths that a read ends inside of it, at three of its places behind a `~`.
+is a response to HEAD. Of the backend's bytes 1,024 at most are read first, and then 8,192 at a time: so each row comes alone, and behind
+interim responses of such lengths that the first read, or the second, ends inside of it, at three of its places behind a `~`.
 """
 import json
 import re
@@ -411,6 +411,9 @@ def requests(script):
             script.connection("cut", [front + data[:place], data[place:]])
 
 
+FIRST_READ, SECOND_READ = 1024, 1024 + 8192
+
+
 def interim(size):
     """An interim response of so many bytes."""
     return b"HTTP/1.1 103 \r\nA: " + b"a" * (size - 22) + b"\r\n\r\n"
@@ -428,8 +431,9 @@ def responses(script):
         script.connection("whole", [request])
         first = len(front) or 1
         places = 0 if is_long else max(len(data) - first, 0)
+        end = FIRST_READ if len(data) < 1000 and number % 2 else SECOND_READ
         for part in range(min(places, 3)):
-            script.backend(interim(8192 - first - (number + part * places // 3) % places) + data)
+            script.backend(interim(end - first - (number + part * places // 3) % places) + data)
             script.connection("cut", [request])
 
 
