@@ -121,9 +121,11 @@ fn fields_are_reached(rt: HostRuntime) -> Result<(), Fail> {
     let name = Text::of(alloc, "a")?;
     let incoming = Incoming::new(alloc, Fields { name, count: 2 })?;
     assert!(rt; incoming.count == 2);
+    let shared = incoming.share()?;
     let stored = incoming.stored(Second(7));
     assert!(rt;
         stored.name.bytes() == b"a".as_slice() && stored.count == 2 && stored.first() == Second(7)
     );
+    assert!(rt; stored.incoming().count == 2 && shared.count == 2);
     Ok(())
 }

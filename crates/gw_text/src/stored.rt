@@ -1,29 +1,25 @@
-//! Objects on the heap, before and after they are put into a world. A list of such objects moves one pointer for each
-//! that stands behind a new one.
+//! Objects that are shared, before and after they are put into a world.
 ghost use Rattle.std.specs.Prelude.{◌≡◌, IfOk};
+ghost use Rattle.std.specs.Arc.{arc_value};
 
 use crate::second::Second;
 use std::alloc::{AllocError, Global};
 use std::marker::Model;
 use std::ops::Deref;
+use std::sync::Arc;
 
-// An object, with room for the moment at which its key was first put.
-#[derive(Drop)]
-struct Cell<T: Drop> {
-    first: Second,
-    object: T,
-}
-
-/// An object that was read and isn't put yet.
+/// A handle on an object that was read and isn't put yet.
 #[derive(Drop)]
 pub struct Incoming<T: Drop> {
-    cell: Box<Cell<T>>,
+    object: Arc<T>,
 }
 
 impl<T: Drop> Model for Incoming<T> {
+    ghost use Rattle.std.specs.Arc.{arc_value};
+
     ghost Value = { T };
 
-    ghost view = { λ i. i.cell.value.object };
+    ghost view = { λ i. arc_value i.object };
 }
 
 impl<T: Drop> Incoming<T> {
@@ -31,18 +27,28 @@ impl<T: Drop> Incoming<T> {
     pub fn new(alloc: Global, object: T) -> Result<Self, AllocError>
         ensures { IfOk result (λ i. i ≡ object) }
     {
-        let first = Second(0);
         Ok(Incoming {
-            cell: Box::new(alloc, Cell { first, object })?,
+            object: Arc::new(alloc, object)?,
+        })
+    }
+
+    /// One handle more on the same object, which isn't copied.
+    pub fn share(&self) -> Result<Self, AllocError>
+        ensures { IfOk result (λ i. i ≡ self.now) }
+    {
+        Ok(Incoming {
+            object: self.object.clone()?,
         })
     }
 
     /// The same object under a key that was first put at this moment.
-    pub fn stored(mut self, first: Second) -> Stored<T>
+    pub fn stored(self, first: Second) -> Stored<T>
         ensures { result ≡ record { object = self; first = first } }
     {
-        self.cell.first = first;
-        Stored { cell: self.cell }
+        Stored {
+            object: self.object,
+            first,
+        }
     }
 }
 
@@ -52,22 +58,24 @@ impl<T: Drop> Deref for Incoming<T> {
     ghost deref_gives = { λ x y. y ≡ x };
 
     fn deref(&self) -> &T {
-        &self.cell.object
+        &self.object
     }
 }
 
-/// An object of a world, with the moment at which its key was first put.
+/// A handle on an object of a world, with the moment at which its key was first put.
 #[derive(Drop)]
 pub struct Stored<T: Drop> {
-    cell: Box<Cell<T>>,
+    object: Arc<T>,
+    first: Second,
 }
 
 impl<T: Drop> Model for Stored<T> {
+    ghost use Rattle.std.specs.Arc.{arc_value};
     ghost use Rattle.gw_text.specs.model.Stored.{Stored as Plain};
 
     ghost Value = { Plain T };
 
-    ghost view = { λ s. record { object = s.cell.value.object; first = s.cell.value.first } };
+    ghost view = { λ s. record { object = arc_value s.object; first = s.first } };
 }
 
 impl<T: Drop> Stored<T> {
@@ -75,7 +83,16 @@ impl<T: Drop> Stored<T> {
     pub fn first(&self) -> Second
         ensures { result ≡ self.now.first }
     {
-        self.cell.first
+        self.first
+    }
+
+    /// The object alone, as it came.
+    pub fn incoming(self) -> Incoming<T>
+        ensures { result ≡ self.object }
+    {
+        Incoming {
+            object: self.object,
+        }
     }
 }
 
@@ -85,6 +102,6 @@ impl<T: Drop> Deref for Stored<T> {
     ghost deref_gives = { λ x y. y ≡ x.object };
 
     fn deref(&self) -> &T {
-        &self.cell.object
+        &self.object
     }
 }
