@@ -18,7 +18,7 @@ pub const MOST_GIVEN: usize = 67_108_864;
 /// The most bytes that one `receive` is asked for.
 pub const MOST_PIECE: usize = 8192;
 
-/// How many bytes the first `receive` is asked for. Most responses have no more, and a larger buffer takes longer to clear than they to read.
+/// How many bytes the first `receive` is asked for. A response that comes in them needs no larger buffer, which wants memory and is cleared first.
 const FIRST_PIECE: usize = 1024;
 
 /// One exchange with the backend at the socket: opens a connection, sends all bytes, receives until the response is whole, and

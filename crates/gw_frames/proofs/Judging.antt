@@ -1,5 +1,8 @@
 -- What the judgment on a head rests on.
-use Rattle.std.proofs.Common.{◌≡◌, ℕ, Bool, List, [], Option, None, Some, refl, sym, ap, ◌∙◌, inr, codes, take, ◌||◌}
+use Rattle.std.proofs.Common.{◌≡◌, ℕ, Bool, true, false, List, [], ◌∷◌, Option, None, Some, refl, sym, ap, ◌∙◌, inr, codes, take, not, ◌&&◌, ◌||◌, arith}
+use Rattle.std.proofs.lemmas.Bool.Decides.{nat_tests}
+use Rattle.std.specs.Char.{is_ascii_uppercase, to_ascii_lowercase}
+use Rattle.std.specs.List.{list_all}
 use Rattle.http_uri.specs.Grammar.{path_of, query_of}
 use Rattle.gw_text.specs.model.Fields.{Field}
 use Rattle.gw_messages.specs.model.Values.{values_of, has_field, lower}
@@ -21,3 +24,16 @@ pub request_is : (h : Head) (t : Target) (path authority host : List ℕ) (query
     → record { method = h.method; target = h.target; path = path; authority = authority; host = host; query = query; minor = h.minor; fields = fields; body = body; framed = framed; close = close } ≡ request_of h t
 unfolding request_of
 request_is h t path authority host query fields body framed close a b c d e f g i = rw (c, a, b, d, e, f, g, i) refl
+
+-- a byte that is no capital is its own in lower case
+no_capital : (b : ℕ) → is_ascii_uppercase b ≡ false → to_ascii_lowercase b ≡ b
+no_capital b e = grind (arith, nat_tests)
+
+lower_by : (b : ℕ) (text : List ℕ) (t rest : Bool) → is_ascii_uppercase b ≡ t → (rest ≡ true → lower text ≡ text) → (not t && rest) ≡ true → lower (b ∷ text) ≡ b ∷ text
+lower_by b text true rest is later e = cc
+lower_by b text false rest is later e = ap (λ (c : ℕ). c ∷ lower text) (no_capital b is) ∙ ap (λ (l : List ℕ). b ∷ l) (later e)
+
+-- a text without capitals is in lower case
+pub lower_already : (text : List ℕ) → list_all (λ b. not (is_ascii_uppercase b)) text ≡ true → lower text ≡ text
+lower_already [] e = refl
+lower_already (b ∷ text) e = lower_by b text (is_ascii_uppercase b) (list_all (λ c. not (is_ascii_uppercase c)) text) refl (lower_already text) e

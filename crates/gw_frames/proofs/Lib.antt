@@ -1,3 +1,4 @@
+pub mod Framing
 pub mod HeadBytes
 pub mod Inlets
 pub mod Judging

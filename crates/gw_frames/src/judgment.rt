@@ -1,4 +1,6 @@
-ghost use Rattle.std.specs.Prelude.{◌≡◌, ◌||◌, true, false, nat_lt, IfOk, codes, map};
+ghost use Rattle.std.specs.Prelude.{◌≡◌, ◌||◌, true, false, not, nat_lt, IfOk, codes, map};
+ghost use Rattle.std.specs.Char.{is_ascii_uppercase};
+ghost use Rattle.std.specs.List.{list_all};
 ghost use Rattle.http_uri.specs.Grammar.{path_of, query_of};
 ghost use Rattle.gw_messages.specs.model.Values.{are_one_number, has_field, lower, number_of, same_word, values_of};
 ghost use Rattle.gw_frames.specs.model.Heads.{authority_of};
@@ -11,10 +13,10 @@ use crate::head::{Head, read_head};
 use crate::host::split_host;
 use crate::opening::Opening;
 use crate::request::Request;
-use crate::rules::{code_of, size_of};
+use crate::rules::{code_of, is_framed, size_of};
 use crate::target::read_target;
 use gw_messages::element::same_word;
-use gw_messages::field::{Values, has_element, has_field, is_named, values_of};
+use gw_messages::field::{Values, has_element, is_named, values_of};
 use gw_text::{Field, Fields, NoMemory, Text};
 use http_uri::Uri;
 use std::alloc::Global;
@@ -49,10 +51,11 @@ fn open(alloc: Global, head: Head, target: &Uri) -> Result<Opening, NoMemory>
     requires few { nat_lt 1048576 (number_of (values_of (codes "content-length") head.fields)) ≡ false }
     ensures { IfOk result (λ o. o ≡ record { request = request_of head (target_of target.now); size = size_of head.fields; expects = expects head }) }
 {
-    let size = size_of(head.fields.as_slice());
+    let framed = is_framed(head.fields.as_slice());
+    let size = size_of(head.fields.as_slice(), framed);
     let expects = expects(&head, size);
     Ok(Opening {
-        request: request_of(alloc, head, target)?,
+        request: request_of(alloc, head, target, framed)?,
         size,
         expects,
     })
@@ -60,11 +63,11 @@ fn open(alloc: Global, head: Head, target: &Uri) -> Result<Opening, NoMemory>
 
 // The request with an empty body.
 #[tactic(auto, unfolding(crate::specs::model::Requests::request_of))]
-fn request_of(alloc: Global, head: Head, target: &Uri) -> Result<Request, NoMemory>
+fn request_of(alloc: Global, head: Head, target: &Uri, framed: bool) -> Result<Request, NoMemory>
+    requires { framed ≡ (has_field (codes "transfer-encoding") head.fields || has_field (codes "content-length") head.fields) }
     ensures { IfOk result (λ request. request ≡ request_of head (target_of target.now)) }
 {
     let close = closes(&head);
-    let framed = is_framed(&head);
     let authority = authority_of(alloc, &head, target)?;
     let host = lower(alloc, split_host(authority.bytes()).0)?;
     let path = Text::of(alloc, path_of(target))?;
@@ -83,13 +86,6 @@ fn request_of(alloc: Global, head: Head, target: &Uri) -> Result<Request, NoMemo
         framed,
         close,
     })
-}
-
-fn is_framed(head: &Head) -> bool
-    ensures { result ≡ (has_field (codes "transfer-encoding") head.now.fields || has_field (codes "content-length") head.now.fields) }
-{
-    let fields = head.fields.as_slice();
-    has_field(fields, b"transfer-encoding") || has_field(fields, b"content-length")
 }
 
 fn copy_query(alloc: Global, target: &Uri) -> Result<Option<Text>, NoMemory>
@@ -127,14 +123,20 @@ fn host_of(alloc: Global, fields: &[Field]) -> Result<Text, NoMemory>
     }
 }
 
+// The text in lower case. One that is in lower case takes no memory where it is short.
 fn lower(alloc: Global, text: &[u8]) -> Result<Text, NoMemory>
     ensures { IfOk result (λ lowered. lowered ≡ lower text.now) }
 {
-    let mut bytes = Vec::with_capacity(alloc, text.len())?;
-    'bytes: for byte in text {
-        bytes.push(byte.to_ascii_lowercase())?;
+    if is_lower(text) {
+        return Text::from_bytes(alloc, text);
     }
-    Ok(Text::from_vec(bytes))
+    Ok(Text::from_vec(text.to_ascii_lowercase(alloc)?))
+}
+
+fn is_lower(text: &[u8]) -> bool
+    ensures { result ≡ list_all (λ b. not (is_ascii_uppercase b)) text.now }
+{
+    text.iter().all(|byte| !byte.is_ascii_uppercase())
 }
 
 // The fields, with the authority of an absolute target in the place of Host's value.

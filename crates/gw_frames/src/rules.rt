@@ -1,7 +1,8 @@
-ghost use Rattle.std.specs.Prelude.{◌≡◌, ◌==◌, true, false, codes, length, nat_lt, option_map, IfNone};
+ghost use Rattle.std.specs.Prelude.{◌≡◌, ◌==◌, ◌||◌, true, false, codes, length, nat_lt, option_map, IfNone};
 ghost use Rattle.std.specs.List.{list_any};
 ghost use Rattle.std.specs.Option.{option_map_or};
-ghost use Rattle.gw_messages.specs.model.Values.{are_one_number, codings, number_of, values_of};
+ghost use Rattle.gw_text.specs.model.Fields.{same_field_name};
+ghost use Rattle.gw_messages.specs.model.Values.{are_one_number, codings, has_field, number_of, values_of};
 ghost use Rattle.gw_frames.specs.model.Heads.{code_of, has_one_host, is_ambiguous, is_authority, is_served_form, is_served_target, is_unbounded, is_unserved};
 ghost use Rattle.gw_frames.specs.model.Requests.{size_of};
 ghost use Rattle.gw_frames.specs.Targets.{target_of};
@@ -9,7 +10,7 @@ ghost use Rattle.gw_frames.specs.Targets.{target_of};
 use crate::head::Head;
 use crate::host::is_authority;
 use gw_messages::coding::codings_of;
-use gw_messages::field::{Values, are_one_number, has_field, values_of};
+use gw_messages::field::{Values, are_one_number, has_field, is_named, values_of};
 use gw_messages::number::number_up_to;
 use gw_text::Field;
 use http_uri::Uri;
@@ -38,6 +39,9 @@ pub fn code_of(head: &Head, target: &Option<Uri>) -> Option<u16>
     }
     if !has_one_host(fields, target) {
         return Some(400);
+    }
+    if !is_framed(fields) {
+        return None;
     }
     if is_ambiguous(head) {
         return Some(400);
@@ -105,6 +109,20 @@ fn has_valid_authority(target: &Uri) -> bool
     }
 }
 
+/// Whether a body is announced. Where none is, the tests on its length pass.
+pub fn is_framed(fields: &[Field]) -> bool
+    ensures { result ≡ (has_field (codes "transfer-encoding") fields.now || has_field (codes "content-length") fields.now) }
+{
+    names_body(fields)
+}
+
+fn names_body(fields: &[Field]) -> bool
+    ensures { result ≡ list_any (λ f. same_field_name f.name (codes "transfer-encoding") || same_field_name f.name (codes "content-length")) fields.now }
+{
+    fields.iter().any(|field| is_named(field, b"transfer-encoding")
+        || is_named(field, b"content-length"))
+}
+
 fn is_ambiguous(head: &Head) -> bool
     ensures { result ≡ is_ambiguous head.now }
 {
@@ -136,11 +154,15 @@ fn is_too_big(fields: &[Field]) -> bool
 }
 
 /// How many bytes a body has; none where it is chunked.
-pub fn size_of(fields: &[Field]) -> Option<usize>
+pub fn size_of(fields: &[Field], framed: bool) -> Option<usize>
+    requires framed { framed ≡ (has_field (codes "transfer-encoding") fields.now || has_field (codes "content-length") fields.now) }
     requires number { are_one_number (values_of (codes "content-length") fields.now) ≡ true }
     requires few { nat_lt 1048576 (number_of (values_of (codes "content-length") fields.now)) ≡ false }
     ensures { result ≡ size_of fields.now }
 {
+    if !framed {
+        return Some(0);
+    }
     if has_field(fields, b"transfer-encoding") {
         return None;
     }

@@ -1,13 +1,14 @@
 -- Lengths that fields announce.
-use Rattle.std.proofs.Common.{◌≡◌, ℕ, ◌+◌, ◌*◌, ◌-◌, ◌≤◌, ◌<◌, Bool, true, false, ◌||◌, if◌then◌else◌, nat_le, List, [], ◌∷◌, length, map, filter, codes, Option, None, Some, MatchOption, Bor, drop, get_or, refl, sym, ap, ◌∙◌, arith, subst}
+use Rattle.std.proofs.Common.{◌≡◌, ℕ, ◌+◌, ◌*◌, ◌-◌, ◌≤◌, ◌<◌, Bool, true, false, ◌||◌, ◌&&◌, bytes_eq, if◌then◌else◌, nat_le, List, [], ◌∷◌, length, map, filter, codes, Option, None, Some, MatchOption, Bor, drop, get_or, refl, sym, ap, ◌∙◌, arith, subst}
 use Rattle.std.specs.Char.{is_ascii_digit}
 use Rattle.std.specs.List.{list_all}
 use Rattle.std.specs.Str.Parse.{digits_value, digits_value_after}
 use Rattle.std.proofs.lemmas.Bool.Decides.{nat_tests}
 use Rattle.std.proofs.lemmas.List.{drop_more}
 use Rattle.std.proofs.lemmas.List.Sums.{AllPass-from_list_all}
+use Rattle.std.proofs.lemmas.Slice.Eq.{bytes_eq-Decides}
 use Rattle.gw_text.specs.model.Fields.{Field, same_field_name}
-use Rattle.gw_messages.specs.model.Values.{are_one_number, has_field, number_of, values_of}
+use Rattle.gw_messages.specs.model.Values.{are_one_number, has_field, is_number, number_of, values_of, without_zeros}
 use Rattle.gw_messages.proofs.Numbers.{above}
 use Rattle.gw_messages.specs.Fields.{Shows}
 use Rattle.gw_messages.specs.declared.field.Values.TheVariants as values
@@ -92,3 +93,20 @@ pub extent_by : (fields : List Field) → has_field (codes "transfer-encoding") 
 extent_by fields none some =
     ap (λ (b : Bool). if b then by_chunks else (if has_field (codes "content-length") fields then by_number (number_of (values_of (codes "content-length") fields)) else by_end)) none
     ∙ ap (λ (b : Bool). if b then by_number (number_of (values_of (codes "content-length") fields)) else by_end) some
+
+-- no value is one number
+pub one_absent : (xs : List (List ℕ)) → Shows xs values.Absent → true ≡ are_one_number xs
+one_absent [] s = refl
+one_absent (x ∷ []) s = elim s [ ]
+one_absent (x ∷ y ∷ xs) s = elim s [ ]
+
+alone : (n e : Bool) → e ≡ true → n ≡ ((n && e) && true)
+alone true e is = rw is refl
+alone false e is = refl
+
+-- a value alone is one number where it is a number
+pub one_alone : (xs : List (List ℕ)) (v : Bor (List ℕ)) → Shows xs (values.One v) → is_number v.now ≡ are_one_number xs
+one_alone [] v s = elim s [ ]
+one_alone (x ∷ y ∷ xs) v s = elim s [ ]
+one_alone (x ∷ []) v s =
+    ap is_number s ∙ alone (is_number x) (bytes_eq (without_zeros x) (without_zeros x)) ((bytes_eq-Decides (without_zeros x) (without_zeros x)).1 refl)

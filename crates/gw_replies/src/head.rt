@@ -1,4 +1,5 @@
 ghost use Rattle.std.specs.Prelude.{◌≡◌, [], IfOk};
+ghost use Rattle.httparse.specs.Spans.{IsResponseOf, IsResponseWithin};
 ghost use Rattle.gw_replies.specs.model.Responses.{IsHead, response_of};
 
 use crate::length::announced_length;
@@ -6,7 +7,7 @@ use crate::response::Response;
 use gw_messages::spans::copy_fields;
 use gw_text::{Fields, NoMemory, Text};
 use httparse::Status;
-use httparse::spans::{EMPTY_HEADER_SPAN, parse_response};
+use httparse::spans::{EMPTY_HEADER_SPAN, HeaderSpan, ResponseSpans, parse_response};
 use std::alloc::Global;
 use std::marker::Model;
 
@@ -26,8 +27,23 @@ impl Model for Head {
     ghost view = { λ h. record { code = h.code; phrase = h.phrase; fields = h.fields } };
 }
 
+/// How many fields most heads have at most: their spans need no memory.
+const FEW_FIELDS: usize = 32;
+
 /// The head that the bytes are, all of them.
 pub fn read_head(alloc: Global, bytes: &[u8]) -> Result<Option<Head>, NoMemory>
+    ensures { IfOk result (IsHead bytes.now) }
+{
+    let mut spans = [EMPTY_HEADER_SPAN; FEW_FIELDS];
+    match parse_response(bytes, &mut spans) {
+        Ok(Status::Complete(head)) => copy_head(alloc, bytes, &head, &spans),
+        Ok(Status::Partial) => Ok(None),
+        Err(_) => read_large_head(alloc, bytes),
+    }
+}
+
+// The same with room for as many fields as the bytes may have.
+fn read_large_head(alloc: Global, bytes: &[u8]) -> Result<Option<Head>, NoMemory>
     ensures { IfOk result (IsHead bytes.now) }
 {
     // A field takes at least three bytes.
@@ -37,6 +53,20 @@ pub fn read_head(alloc: Global, bytes: &[u8]) -> Result<Option<Head>, NoMemory>
         Ok(Status::Partial) => return Ok(None),
         Err(_) => return Ok(None),
     };
+    copy_head(alloc, bytes, &head, spans.as_slice())
+}
+
+// The head that was found, where it is all of the bytes.
+fn copy_head(
+    alloc: Global,
+    bytes: &[u8],
+    head: &ResponseSpans,
+    spans: &[HeaderSpan],
+) -> Result<Option<Head>, NoMemory>
+    requires within { IsResponseWithin bytes.now spans.now head.now }
+    requires found { IsResponseOf bytes.now spans.now head.now }
+    ensures { IfOk result (IsHead bytes.now) }
+{
     if head.len != bytes.len() {
         return Ok(None);
     }

@@ -4,8 +4,9 @@ ghost use Rattle.gw_replies.specs.model.Responses.{is_bodiless, is_chunked_alone
 ghost use Rattle.gw_replies.specs.Kinds.{IsKind};
 
 use crate::head::Head;
+use crate::length::is_one_length;
 use gw_messages::coding::codings_of;
-use gw_messages::field::{are_one_number, has_field};
+use gw_messages::field::has_field;
 use gw_text::Field;
 
 /// The most fields of a head.
@@ -77,7 +78,7 @@ fn is_misframed(fields: &[Field]) -> bool
     if has_field(fields, b"transfer-encoding") && is_not_chunked_alone(fields) {
         return true;
     }
-    !are_one_number(fields, b"content-length")
+    !is_one_length(fields)
 }
 
 // Whether Content-Length stands beside Transfer-Encoding, or this is other than `chunked` alone.

@@ -7,7 +7,7 @@ ghost use Rattle.gw_messages.specs.model.Values.{are_one_number, number_of, valu
 ghost use Rattle.gw_replies.specs.model.Responses.{announced_length};
 
 use gw_messages::field::{Values, are_one_number, values_of};
-use gw_messages::number::number_up_to;
+use gw_messages::number::{is_number, number_up_to};
 use gw_text::Field;
 
 /// The most bytes of a body.
@@ -17,13 +17,24 @@ pub const MOST_BODY: usize = 8388608;
 pub fn announced_length(fields: &[Field]) -> Option<u64>
     ensures { result ≡ announced_length fields.now }
 {
-    if !are_one_number(fields, b"content-length") {
+    if !is_one_length(fields) {
         return None;
     }
     match values_of(fields, b"content-length") {
         Values::Absent => None,
         Values::One(text) => wide_number(text),
         Values::Many(text) => wide_number(text),
+    }
+}
+
+/// Whether the fields of Content-Length are numbers, all of them the same. A single one is looked at once.
+pub fn is_one_length(fields: &[Field]) -> bool
+    ensures { result ≡ are_one_number (values_of (codes "content-length") fields.now) }
+{
+    match values_of(fields, b"content-length") {
+        Values::Absent => true,
+        Values::One(text) => is_number(text),
+        Values::Many(_) => are_one_number(fields, b"content-length"),
     }
 }
 
