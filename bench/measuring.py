@@ -15,7 +15,7 @@ def stands_on():
         for line in file:
             name, colon, below = line.partition(":")
             if colon and not name.startswith("#"):
-                crates[name] = below.split()
+                crates[name.split()[0]] = below.split()
     return crates
 
 
