@@ -1,4 +1,6 @@
-pub mod Indexes
+pub mod Digests
+pub mod InOrder
 pub mod Namespaces
 pub mod Places
 pub mod SlicesOf
+pub mod Undoing

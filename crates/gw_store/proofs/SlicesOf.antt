@@ -1,24 +1,30 @@
--- The slices of a Service have its digest, so they are among those that the digest finds.
-use Rattle.std.proofs.Common.{◌≡◌, ◌∙◌, ◌<◌, ◌≤◌, ◌+◌, ◌++◌, ℤ, zero, suc, length, set, drop, get_or, arith, append_assoc, All, ℕ, Bool, true, false, ◌&&◌, ◌==◌, inl, inr, List, [], ◌∷◌, map, filter, filter_map, Option, Some, None, refl, sym, ap, ap₂, true≢false, codes, slice_get}
-use Rattle.std.specs.List.{insert, remove as remove_at}
+-- The index follows the slices that are held, and what it finds for a Service has all slices of it.
+use Rattle.std.proofs.Common.{◌≡◌, ◌∙◌, ℕ, ℤ, zero, suc, Bool, true, false, ◌&&◌, ◌==◌, cond, List, [], ◌∷◌, ◌++◌, filter, map, Option, Some, None, refl, sym, ap, ap₂, inl, inr, get_or, true≢false, codes, eqb-true}
+use Rattle.std.specs.List.{AllByRecursion, remove as remove_at}
+use Rattle.std.specs.List.Sorted.{IsStrictlySortedBy}
 use Rattle.std.specs.Option.{option_map_or}
+use Rattle.std.specs.Ordering.{is_lt, is_gt, is_ne}
 use Rattle.std.specs.Prelude.{unwrap_or}
 use Rattle.std.specs.Str.{bytes_eq}
+use Rattle.std.specs.declared.cmp.Ordering.{Ordering}
+use Rattle.std.specs.declared.cmp.Ordering.TheVariants.{Less}
 use Rattle.std.proofs.lemmas.Bool.{and_parts, eq-eqb}
+use Rattle.std.proofs.lemmas.Cmp.{on_total}
+use Rattle.std.proofs.lemmas.List.{map-append}
+use Rattle.std.proofs.lemmas.List.Elements.{filter-append, filter_agree}
 use Rattle.std.proofs.lemmas.Slice.Eq.{bytes_eq-Decides}
-use Rattle.std.proofs.lemmas.List.{drop_more}
-use Rattle.std.proofs.lemmas.List.Elements.{All-from_recursion}
-use Rattle.gw_text.specs.model.Names.{Key, is_given, is_in_namespace}
+use Rattle.gw_text.specs.model.Names.{Key, key_order, is_given, is_in_namespace}
 use Rattle.gw_text.specs.model.References.{is_slice_of}
 use Rattle.gw_text.specs.model.Selectors.{label_of}
 use Rattle.gw_text.specs.model.Slices.{EndpointSlice, is_ipv4_type}
-use Rattle.gw_text.specs.model.Stored.{Stored, objects_of, put, remove}
+use Rattle.gw_text.specs.model.Stored.{Stored, stored_key, objects_of, put, remove, first_moment, IsInKeyOrder}
 use Rattle.gw_text.specs.model.World.{slice_key}
-use Rattle.gw_store.specs.declared.by_service.Place.{Place}
-use Rattle.gw_store.specs.ByService.{service_digest, slice_digest, digests_of, IsPlaceIn, IsIndexOf}
-use Rattle.gw_store.specs.Table.{StandsAt, IsMissingAt}
-use Rattle.gw_store.proofs.Indexes.{all_filter, all_weaker, index_finds, has_digest, known}
-use Rattle.gw_store.proofs.Places.{put-missing, put-standing, remove-standing, stands_within}
+use Rattle.gw_text.proofs.Keys.{key_total, order_from_same}
+use Rattle.gw_store.specs.ByService.{service_digest, slice_digest, put_slice, without, of_digest, IsIndexOf}
+use Rattle.gw_store.specs.Table.{AllAbove, StandsAt, IsMissingAt}
+use Rattle.gw_store.proofs.Digests.{known, fused, swapped, has_digest, put_own, put_other, without_own, without_other}
+use Rattle.gw_store.proofs.InOrder.{apart}
+use Rattle.gw_store.proofs.Places.{remove-standing}
 
 named : (name : List ℕ) (label : Option (List ℕ)) → option_map_or (bytes_eq name) label false ≡ true → unwrap_or label [] ≡ name
 named name None is = absurd (true≢false (sym is))
@@ -34,116 +40,150 @@ digest_is k e is =
     let namespace : e.meta.key.namespace ≡ k.namespace = (bytes_eq-Decides e.meta.key.namespace k.namespace).0 given.1 in
     ap₂ service_digest namespace (named k.name label parts.1)
 
--- those of the digest, and of them those of the Service
-among : (k : Key) (es : List EndpointSlice) →
-    filter (is_slice_of k) (filter (λ e. slice_digest e == service_digest k.namespace k.name) es) ≡ filter (is_slice_of k) es
-among k [] = refl
-among k (e ∷ es) =
+-- the slices of a Service are among those of its digest
+among : (k : Key) (es : List EndpointSlice) → filter (is_slice_of k) (of_digest (service_digest k.namespace k.name) es) ≡ filter (is_slice_of k) es
+among k es =
+    let digest = service_digest k.namespace k.name in
+    fused (is_slice_of k) (has_digest digest) es
+    ∙ filter_agree (λ e. has_digest digest e && is_slice_of k e) (is_slice_of k) (λ e.
     elim (known (is_slice_of k e)) [
-      | inl is ↦ (
-          let same = eq-eqb (slice_digest e) (service_digest k.namespace k.name) (digest_is k e is) in
-          rw (same, is) (ap (λ (rest : List EndpointSlice). e ∷ rest) (among k es)))
-      | inr other ↦ (
-          let rest = among k es in
-          elim (known (slice_digest e == service_digest k.namespace k.name)) [
-            | inl same ↦ (rw (same, other) rest)
-            | inr apart ↦ (rw (apart, other) rest)
-          ])
+      | inl is ↦ (let same = eq-eqb (slice_digest e) digest (digest_is k e is) in rw (same, is) refl)
+      | inr other ↦ (rw other (elim (known (has_digest digest e)) [
+        | inl same ↦ (rw same refl)
+        | inr apart ↦ (rw apart refl)
+      ]))
+    ]) es
+
+pub finds_slices : (k : Key) (slices index : List EndpointSlice) → IsIndexOf slices index →
+    filter (is_slice_of k) (of_digest (service_digest k.namespace k.name) index) ≡ filter (is_slice_of k) slices
+finds_slices k slices index same = ap (filter (is_slice_of k)) (same (service_digest k.namespace k.name)) ∙ among k slices
+
+-- the slices of other keys
+abbrev pub others : Key → List EndpointSlice → List EndpointSlice
+others name slices = filter (λ t. is_ne (key_order (slice_key t) name)) slices
+
+objects_filter : (p : EndpointSlice → Bool) (stored : List (Stored EndpointSlice)) → objects_of (filter (λ s. p s.object) stored) ≡ filter p (objects_of stored)
+objects_filter p [] = refl
+objects_filter p (s ∷ stored) =
+    elim (known (p s.object)) [
+      | inl e ↦ (rw e (ap (λ (rest : List EndpointSlice). s.object ∷ rest) (objects_filter p stored)))
+      | inr e ↦ (rw e (objects_filter p stored))
     ]
 
-digests_same : (slices : List (Stored EndpointSlice)) → digests_of slices ≡ map slice_digest (objects_of slices)
-digests_same [] = refl
-digests_same (s ∷ slices) = ap (λ (rest : List ℕ). slice_digest s.object ∷ rest) (digests_same slices)
+abbrev by_key : EndpointSlice → EndpointSlice → Ordering
+by_key a b = key_order (slice_key a) (slice_key b)
 
--- what an index finds has all slices of the Service
-pub finds_slices : (k : Key) (slices : List (Stored EndpointSlice)) (places : List Place) → IsIndexOf (digests_of slices) places →
-    filter (is_slice_of k) (filter_map (λ p. slice_get (objects_of slices) p.at) (filter (has_digest (service_digest k.namespace k.name)) places)) ≡ filter (is_slice_of k) (objects_of slices)
-finds_slices k slices places index =
-    let here : IsIndexOf (map slice_digest (objects_of slices)) places = rw (← digests_same slices) index in
-    ap (filter (is_slice_of k)) (index_finds slice_digest (service_digest k.namespace k.name) (objects_of slices) places here) ∙ among k (objects_of slices)
+all_objects : (P : Key → Type 0) (stored : List (Stored EndpointSlice)) → AllByRecursion P (map (stored_key slice_key) stored) → AllByRecursion (λ t. P (slice_key t)) (objects_of stored)
+all_objects P [] all = tt
+all_objects P (s ∷ stored) all = (all.0, all_objects P stored all.1)
 
--- what a change of the slices makes of their digests
-insert_digests : (x : Stored EndpointSlice) (hs : List (Stored EndpointSlice)) (i : ℕ) → digests_of (insert hs i x) ≡ insert (digests_of hs) i (slice_digest x.object)
-insert_digests x hs zero = refl
-insert_digests x [] (suc i) = refl
-insert_digests x (h ∷ hs) (suc i) = ap (λ (rest : List ℕ). slice_digest h.object ∷ rest) (insert_digests x hs i)
+ordered_objects : (stored : List (Stored EndpointSlice)) → IsInKeyOrder slice_key stored → IsStrictlySortedBy by_key (objects_of stored)
+unfolding IsStrictlySortedBy
+ordered_objects [] order = tt
+ordered_objects (s ∷ stored) order = (all_objects (λ k. key_order (slice_key s.object) k ≡ Less) stored order.0, ordered_objects stored order.1)
 
-remove_digests : (hs : List (Stored EndpointSlice)) (i : ℕ) → digests_of (remove_at hs i) ≡ remove_at (digests_of hs) i
-remove_digests [] zero = refl
-remove_digests [] (suc i) = refl
-remove_digests (h ∷ hs) zero = refl
-remove_digests (h ∷ hs) (suc i) = ap (λ (rest : List ℕ). slice_digest h.object ∷ rest) (remove_digests hs i)
+-- where the key stands or is missing
+above_others : (name : Key) (stored : List (Stored EndpointSlice)) → AllAbove slice_key name stored → others name (objects_of stored) ≡ objects_of stored
+above_others name [] all = refl
+above_others name (s ∷ stored) all = rw all.0 (ap (λ (rest : List EndpointSlice). s.object ∷ rest) (above_others name stored all.1))
 
-set_by_parts : (ds : List ℕ) (i d : ℕ) → i < length ds → insert (remove_at ds i) i d ≡ set ds i d
-set_by_parts [] i d within = absurd (omega arith)
-set_by_parts (e ∷ ds) zero d within = refl
-set_by_parts (e ∷ ds) (suc i) d within = ap (λ (rest : List ℕ). e ∷ rest) (set_by_parts ds i d (omega arith))
+missing_others : (name : Key) (stored : List (Stored EndpointSlice)) (i : ℕ) → IsMissingAt slice_key name stored i → others name (objects_of stored) ≡ objects_of stored
+missing_others name stored zero gap = above_others name stored gap
+missing_others name [] (suc i) gap = absurd gap
+missing_others name (s ∷ stored) (suc i) gap = rw gap.0 (ap (λ (rest : List EndpointSlice). s.object ∷ rest) (missing_others name stored i gap.1))
 
-set_digests : (hs : List (Stored EndpointSlice)) (i : ℕ) (x : Stored EndpointSlice) → set (digests_of hs) i (slice_digest x.object) ≡ digests_of (set hs i x)
-set_digests [] i x = refl
-set_digests (h ∷ hs) zero x = refl
-set_digests (h ∷ hs) (suc i) x = ap (λ (rest : List ℕ). slice_digest h.object ∷ rest) (set_digests hs i x)
+pub standing_key : (name : Key) (stored : List (Stored EndpointSlice)) (i : ℕ) (d : Stored EndpointSlice) → StandsAt slice_key name stored i → slice_key (get_or stored i d).object ≡ name
+standing_key name [] i d stands = absurd stands
+standing_key name (s ∷ stored) zero d stands = stands.0
+standing_key name (s ∷ stored) (suc i) d stands = standing_key name stored i d stands.1
 
-same_digests : (hs : List (Stored EndpointSlice)) (i d : ℕ) (h : Stored EndpointSlice) → i < length hs → slice_digest (get_or hs i h).object ≡ d → digests_of hs ≡ set (digests_of hs) i d
-same_digests [] i d h within same = absurd (omega arith)
-same_digests (x ∷ hs) zero d h within same = ap (λ (first : ℕ). first ∷ digests_of hs) same
-same_digests (x ∷ hs) (suc i) d h within same = ap (λ (rest : List ℕ). slice_digest x.object ∷ rest) (same_digests hs i d h (omega arith) same)
+standing_others : (name : Key) (stored : List (Stored EndpointSlice)) (i digest : ℕ) (d : Stored EndpointSlice) → StandsAt slice_key name stored i → (slice_digest (get_or stored i d).object == digest) ≡ false
+    → of_digest digest (others name (objects_of stored)) ≡ of_digest digest (objects_of stored)
+standing_others name [] i digest d stands other = absurd stands
+standing_others name (s ∷ stored) zero digest d stands other = rw (order_from_same (slice_key s.object) name stands.0, other) (ap (of_digest digest) (above_others name stored stands.1))
+standing_others name (s ∷ stored) (suc i) digest d stands other =
+    rw stands.0 (ap (λ (rest : List EndpointSlice). cond (has_digest digest s.object) (s.object ∷ rest) rest) (standing_others name stored i digest d stands.1 other))
 
-pub count_digests : (hs : List (Stored EndpointSlice)) → length (digests_of hs) ≡ length hs
-count_digests [] = refl
-count_digests (h ∷ hs) = ap suc (count_digests hs)
+removed_at : (name : Key) (stored : List (Stored EndpointSlice)) (i : ℕ) → StandsAt slice_key name stored i → objects_of (remove_at stored i) ≡ others name (objects_of stored)
+removed_at name [] i stands = absurd stands
+removed_at name (s ∷ stored) zero stands = rw (order_from_same (slice_key s.object) name stands.0) (sym (above_others name stored stands.1))
+removed_at name (s ∷ stored) (suc i) stands = rw stands.0 (ap (λ (rest : List EndpointSlice). s.object ∷ rest) (removed_at name stored i stands.1))
 
-module _ (x : EndpointSlice) (now : ℤ) (hs : List (Stored EndpointSlice)) (at digest : ℕ) where
-  standing_set : StandsAt slice_key (slice_key x) hs at → set (digests_of hs) at (slice_digest x) ≡ digests_of (put slice_key x now hs)
-  standing_set stands =
-      let h : Stored EndpointSlice = record { object = x; first = now } in
-      set_digests hs at (record { object = x; first = (get_or hs at h).first }) ∙ ap digests_of (put-standing slice_key x now hs at h stands)
+-- a slice that is taken away
+module _ (name : Key) (stored : List (Stored EndpointSlice)) (index : List EndpointSlice) (i : ℕ) (d : Stored EndpointSlice) (stands : StandsAt slice_key name stored i) where
+  abbrev held : EndpointSlice
+  held = (get_or stored i d).object
 
-  -- of a slice that goes over to another Service
-  pub digests_moved : StandsAt slice_key (slice_key x) hs at → digest ≡ slice_digest x → insert (remove_at (digests_of hs) at) at digest ≡ digests_of (put slice_key x now hs)
-  digests_moved stands is =
-      let within : at < length (digests_of hs) = rw (count_digests hs) (stands_within slice_key (slice_key x) hs at stands) in
-      set_by_parts (digests_of hs) at digest within ∙ (ap (λ (d : ℕ). set (digests_of hs) at d) is ∙ standing_set stands)
+  pub index_without : IsIndexOf (objects_of stored) index → IsIndexOf (others name (objects_of stored)) (without held index)
+  index_without same digest =
+      elim (known (slice_digest held == digest)) [
+        | inl here ↦ (
+            without_own held digest index here
+            ∙ (ap (λ (k : Key). others k (of_digest digest index)) (standing_key name stored i d stands)
+            ∙ (ap (others name) (same digest) ∙ swapped (λ t. is_ne (key_order (slice_key t) name)) (has_digest digest) (objects_of stored))))
+        | inr other ↦ (without_other held digest index other ∙ (same digest ∙ sym (standing_others name stored i digest d stands other)))
+      ]
 
-  -- of a slice that stays with its own
-  pub digests_kept : (h : Stored EndpointSlice) → StandsAt slice_key (slice_key x) hs at → digest ≡ slice_digest x → slice_digest (get_or hs at h).object ≡ digest → digests_of hs ≡ digests_of (put slice_key x now hs)
-  digests_kept h stands is same =
-      same_digests hs at (slice_digest x) h (stands_within slice_key (slice_key x) hs at stands) (same ∙ is) ∙ standing_set stands
+  pub index_removed : IsIndexOf (objects_of stored) index → IsIndexOf (objects_of (remove slice_key name stored)) (without held index)
+  index_removed same digest =
+      index_without same digest ∙ ap (of_digest digest) (sym (removed_at name stored i stands) ∙ ap objects_of (remove-standing slice_key name stored i stands))
 
-  -- of a new slice
-  pub digests_grown : IsMissingAt slice_key (slice_key x) hs at → digest ≡ slice_digest x → insert (digests_of hs) at digest ≡ digests_of (put slice_key x now hs)
-  digests_grown missing is =
-      ap (λ (d : ℕ). insert (digests_of hs) at d) is ∙ (sym (insert_digests (record { object = x; first = now }) hs at) ∙ ap digests_of (put-missing slice_key x now hs at missing))
+-- a slice that is put
+module _ (x : EndpointSlice) (now : ℤ) (stored : List (Stored EndpointSlice)) where
+  abbrev lower : List EndpointSlice → List EndpointSlice
+  lower slices = filter (λ t. is_lt (key_order (slice_key t) (slice_key x))) slices
 
--- of a slice that is taken away
-pub digests_shrunk : (name : Key) (hs : List (Stored EndpointSlice)) (at : ℕ) → StandsAt slice_key name hs at → remove_at (digests_of hs) at ≡ digests_of (remove slice_key name hs)
-digests_shrunk name hs at stands = sym (remove_digests hs at) ∙ ap digests_of (remove-standing slice_key name hs at stands)
+  abbrev higher : List EndpointSlice → List EndpointSlice
+  higher slices = filter (λ t. is_gt (key_order (slice_key t) (slice_key x))) slices
 
--- places are below the number of slices
-pub places_below : (digests : List ℕ) (places : List Place) (count : ℕ) → IsIndexOf digests places → length digests ≤ count → All (λ p. p.at < count) places
-places_below digests places count index most =
-    All-from_recursion (λ p. p.at < count) places (all_weaker (IsPlaceIn digests) (λ p. p.at < count) (λ p own. omega (arith, own.0, most)) places index.own)
+  put_objects : objects_of (put slice_key x now stored) ≡ lower (objects_of stored) ++ x ∷ higher (objects_of stored)
+  unfolding put
+  put_objects =
+      map-append (λ (s : Stored EndpointSlice). s.object) (filter (λ s. is_lt (key_order (slice_key s.object) (slice_key x))) stored)
+      (record { object = x; first = first_moment slice_key (slice_key x) now stored } ∷ filter (λ s. is_gt (key_order (slice_key s.object) (slice_key x))) stored)
+      ∙ ap₂ (λ (a b : List EndpointSlice). a ++ x ∷ b) (objects_filter (λ t. is_lt (key_order (slice_key t) (slice_key x))) stored)
+      (objects_filter (λ t. is_gt (key_order (slice_key t) (slice_key x))) stored)
 
--- each place of a digest is that of a slice
-pub own_places : (digest : ℕ) (slices : List (Stored EndpointSlice)) (places : List Place) → IsIndexOf (digests_of slices) places → All (λ p. p.at < length slices) (filter (has_digest digest) places)
-own_places digest slices places index =
-    let count = count_digests slices in
-    All-from_recursion (λ p. p.at < length slices) (filter (has_digest digest) places)
-    (all_filter (λ p. p.at < length slices) (has_digest digest) places
-    (all_weaker (IsPlaceIn (digests_of slices)) (λ p. p.at < length slices) (λ p own. omega (arith, own.0, count)) places index.own))
+  -- where the index is already one of these slices, but for x
+  pub index_put : (rest index : List EndpointSlice) → IsInKeyOrder slice_key stored → IsIndexOf rest index →
+      ((digest : ℕ) → (slice_digest x == digest) ≡ true → of_digest digest rest ≡ of_digest digest (objects_of stored)) →
+      ((digest : ℕ) → (slice_digest x == digest) ≡ false → of_digest digest rest ≡ of_digest digest (others (slice_key x) (objects_of stored))) →
+      IsIndexOf (objects_of (put slice_key x now stored)) (put_slice x index)
+  index_put rest index order same own other digest =
+      let objects = objects_of stored in
+      elim (known (slice_digest x == digest)) [
+        | inl here ↦ (
+            let now_own : of_digest digest (lower objects ++ x ∷ higher objects) ≡ lower (of_digest digest objects) ++ x ∷ higher (of_digest digest objects) =
+            filter-append (has_digest digest) (lower objects) (x ∷ higher objects)
+            ∙ rw here (ap₂ (λ (a b : List EndpointSlice). a ++ x ∷ b) (swapped (has_digest digest) (λ t. is_lt (key_order (slice_key t) (slice_key x))) objects)
+            (swapped (has_digest digest) (λ t. is_gt (key_order (slice_key t) (slice_key x))) objects)) in
+            put_own x digest index here
+            ∙ (ap (λ (slices : List EndpointSlice). lower slices ++ x ∷ higher slices) (same digest ∙ own digest here) ∙ sym (ap (of_digest digest) put_objects ∙ now_own)))
+        | inr apart_from ↦ (
+            let now_other : of_digest digest (lower objects ++ x ∷ higher objects) ≡ of_digest digest (others (slice_key x) objects) =
+            filter-append (has_digest digest) (lower objects) (x ∷ higher objects)
+            ∙ rw apart_from (sym (filter-append (has_digest digest) (lower objects) (higher objects))
+            ∙ ap (of_digest digest) (apart by_key (on_total slice_key key_total) x objects (ordered_objects stored order))) in
+            put_other x digest index apart_from ∙ (same digest ∙ (other digest apart_from ∙ sym (ap (of_digest digest) put_objects ∙ now_other))))
+      ]
 
-object_at : (slices : List (Stored EndpointSlice)) (i : ℕ) (s : Stored EndpointSlice) → i < length slices → s ≡ get_or slices i s → slice_get (objects_of slices) i ≡ Some s.object
-object_at [] i s within read = absurd (omega arith)
-object_at (x ∷ slices) zero s within read = ap (λ (t : Stored EndpointSlice). Some t.object) (sym read)
-object_at (x ∷ slices) (suc i) s within read = object_at slices i s (omega arith) read
+  -- a new slice
+  pub index_grown : (index : List EndpointSlice) (i : ℕ) → IsInKeyOrder slice_key stored → IsIndexOf (objects_of stored) index → IsMissingAt slice_key (slice_key x) stored i
+      → IsIndexOf (objects_of (put slice_key x now stored)) (put_slice x index)
+  index_grown index i order same missing =
+      index_put (objects_of stored) index order same (λ digest here. refl) (λ digest other. ap (of_digest digest) (sym (missing_others (slice_key x) stored i missing)))
 
--- one more slice is found at its place
-pub one_found : (slices : List (Stored EndpointSlice)) (places : List Place) (i : ℕ) (d : Place) (found : List EndpointSlice) (s : Stored EndpointSlice) →
-    i < length places → (get_or places i d).at < length slices → s ≡ get_or slices (get_or places i d).at s →
-    found ++ filter_map (λ p. slice_get (objects_of slices) p.at) (drop i places) ≡ filter_map (λ p. slice_get (objects_of slices) p.at) places →
-    (found ++ s.object ∷ []) ++ filter_map (λ p. slice_get (objects_of slices) p.at) (drop (i + 1) places) ≡ filter_map (λ p. slice_get (objects_of slices) p.at) places
-one_found slices places i d found s within there read so_far =
-    let here : slice_get (objects_of slices) (get_or places i d).at ≡ Some s.object = object_at slices (get_or places i d).at s there read in
-    let next : filter_map (λ p. slice_get (objects_of slices) p.at) (drop i places) ≡ s.object ∷ filter_map (λ p. slice_get (objects_of slices) p.at) (drop (i + 1) places) =
-    (rw (drop_more places i d within, here) refl) in
-    append_assoc found (s.object ∷ []) (filter_map (λ p. slice_get (objects_of slices) p.at) (drop (i + 1) places)) ∙ (ap (λ (rest : List EndpointSlice). found ++ rest) (sym next) ∙ so_far)
+  -- one that stays with its Service
+  pub index_kept : (index : List EndpointSlice) (i : ℕ) (d : Stored EndpointSlice) → IsInKeyOrder slice_key stored → IsIndexOf (objects_of stored) index → StandsAt slice_key (slice_key x) stored i
+      → slice_digest (get_or stored i d).object ≡ slice_digest x → IsIndexOf (objects_of (put slice_key x now stored)) (put_slice x index)
+  index_kept index i d order same stands kept =
+      index_put (objects_of stored) index order same (λ digest here. refl)
+      (λ digest other. sym (standing_others (slice_key x) stored i digest d stands (ap (λ (n : ℕ). n == digest) kept ∙ other)))
+
+  -- one that goes over to another
+  pub index_moved : (index : List EndpointSlice) (i : ℕ) (d : Stored EndpointSlice) → IsInKeyOrder slice_key stored → IsIndexOf (objects_of stored) index → StandsAt slice_key (slice_key x) stored i
+      → (slice_digest (get_or stored i d).object == slice_digest x) ≡ false → IsIndexOf (objects_of (put slice_key x now stored)) (put_slice x (without (get_or stored i d).object index))
+  index_moved index i d order same stands moved =
+      index_put (others (slice_key x) (objects_of stored)) (without (get_or stored i d).object index) order (index_without (slice_key x) stored index i d stands same)
+      (λ digest here. standing_others (slice_key x) stored i digest d stands (ap (λ (n : ℕ). slice_digest (get_or stored i d).object == n) (sym (eqb-true (slice_digest x) digest here)) ∙ moved))
+      (λ digest other. refl)

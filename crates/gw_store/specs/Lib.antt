@@ -1,4 +1,5 @@
 pub mod ByService
+pub mod Changes
 pub mod Events
 pub mod EventTypes
 pub mod SeenEvents

@@ -5,6 +5,7 @@ use Rattle.std.specs.declared.cmp.Ordering.TheVariants.{Less, Greater}
 use Rattle.gw_text.specs.model.Forms.{is_key}
 use Rattle.gw_text.specs.model.Names.{Key, key_order, same_key}
 use Rattle.gw_text.specs.model.Stored.{Stored, IsInKeyOrder}
+use Rattle.gw_store.specs.Changes.{IsUndoable}
 
 -- The stored objects in key order, and for how many more there is room.
 pub record Content (T : Type 0) : Type 0 where
@@ -19,6 +20,17 @@ AllKeys key stored = AllByRecursion (λ s. is_key (key s.object) ≡ true) store
 pub record IsTable {T : Type 0} (key : T → Key) (stored : List (Stored T)) : Type 0 where
   pub order : IsInKeyOrder key stored
   pub keys : AllKeys key stored
+
+-- A change of a table at one place: the table before it and after it, and the object that it put, if it put one.
+pub record Displacement (T : Type 0) : Type 0 where
+  pub before : Content T
+  pub after : Content T
+  pub put : Option T
+
+-- What is kept of a change is enough to undo it, and what is there again is a table.
+pub record IsKept {T : Type 0} (key : T → Key) (at : ℕ) (had : Option (Stored T)) (has : Bool) (before after : Content T) : Type 0 where
+  pub undoable : IsUndoable at had has before.stored after.stored before.spare after.spare
+  pub table : IsTable key before.stored
 
 -- All keys are above this one.
 abbrev pub AllAbove : {T : Type 0} → (T → Key) → Key → List (Stored T) → Type 0

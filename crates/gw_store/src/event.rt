@@ -1,11 +1,13 @@
-ghost use Rattle.std.specs.Prelude.{◌≡◌};
+ghost use Rattle.std.specs.Prelude.{◌≡◌, IfOk};
 ghost use Rattle.gw_text.specs.model.Objects.{object_kind, object_key};
 ghost use Rattle.gw_store.specs.EventTypes.{event_type_of};
-ghost use Rattle.gw_store.specs.SeenEvents.{seen_object};
+ghost use Rattle.gw_store.specs.SeenEvents.{seen_object, seen_event};
 
-use gw_objects::{EndpointSlice, Gateway, GatewayClass, Namespace, ReferenceGrant, Service};
+use crate::incoming::IncomingSlice;
+use gw_objects::{Gateway, GatewayClass, Namespace, ReferenceGrant, Service};
 use gw_route::HttpRoute;
-use gw_text::{Incoming, Key, Kind, Second};
+use gw_text::{Incoming, Key, Kind, NoMemory, Second};
+use std::alloc::Global;
 
 /// The type of a watch event.
 #[derive(Clone, Copy, Debug, PartialEq, Eq)]
@@ -43,7 +45,7 @@ pub enum Object {
     ReferenceGrant(Incoming<ReferenceGrant>),
     Namespace(Incoming<Namespace>),
     Service(Incoming<Service>),
-    EndpointSlice(Incoming<EndpointSlice>),
+    EndpointSlice(IncomingSlice),
 }
 
 impl Object {
@@ -76,6 +78,21 @@ impl Object {
             Object::EndpointSlice(slice) => &slice.meta.key,
         }
     }
+
+    /// One handle more on the same object, which isn't copied.
+    pub fn share(&self) -> Result<Self, NoMemory>
+        ensures { IfOk result (λ object. seen_object object ≡ seen_object self.now) }
+    {
+        match self {
+            Object::GatewayClass(class) => Ok(Object::GatewayClass(class.share()?)),
+            Object::Gateway(gateway) => Ok(Object::Gateway(gateway.share()?)),
+            Object::HttpRoute(route) => Ok(Object::HttpRoute(route.share()?)),
+            Object::ReferenceGrant(grant) => Ok(Object::ReferenceGrant(grant.share()?)),
+            Object::Namespace(namespace) => Ok(Object::Namespace(namespace.share()?)),
+            Object::Service(service) => Ok(Object::Service(service.share()?)),
+            Object::EndpointSlice(slice) => Ok(Object::EndpointSlice(slice.share()?)),
+        }
+    }
 }
 
 /// What a line of a watch does to the objects that are held.
@@ -87,6 +104,18 @@ pub enum Event {
     Remove(Kind, Key),
 }
 
+impl Event {
+    /// The same event once more, whose object is shared and isn't copied.
+    pub fn share(&self, alloc: Global) -> Result<Self, NoMemory>
+        ensures { IfOk result (λ event. seen_event event ≡ seen_event self.now) }
+    {
+        match self {
+            Event::Put(object) => Ok(Event::Put(object.share()?)),
+            Event::Remove(kind, key) => Ok(Event::Remove(*kind, key.copy(alloc)?)),
+        }
+    }
+}
+
 /// One change of a list of changes.
 #[derive(Drop)]
 pub struct Entry {
@@ -94,6 +123,17 @@ pub struct Entry {
     pub event: Event,
     /// The moment at which it came.
     pub at: Second,
+}
+
+impl Entry {
+    /// The same change once more.
+    pub fn share(&self, alloc: Global) -> Result<Self, NoMemory>
+        ensures event { IfOk result (λ entry. seen_event entry.event ≡ seen_event self.now.event) }
+        ensures at { IfOk result (λ entry. entry.at ≡ self.now.at) }
+    {
+        let event = self.event.share(alloc)?;
+        Ok(Entry { event, at: self.at })
+    }
 }
 
 /// What a line says.

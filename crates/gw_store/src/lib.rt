@@ -2,7 +2,9 @@
 #![tactic(auto)]
 
 mod by_service;
+mod change;
 mod event;
+mod incoming;
 mod keyed;
 mod read;
 mod slices;
@@ -11,6 +13,7 @@ mod world;
 
 pub use event::{Entry, Event, EventType, Object, Read};
 pub use gw_text::Kind;
+pub use incoming::IncomingSlice;
 pub use read::read_event;
-pub use table::{Keyed, Table};
+pub use table::{Displaced, Keyed, Table};
 pub use world::World;

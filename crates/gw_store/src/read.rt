@@ -7,6 +7,7 @@ ghost use Rattle.gw_store.specs.Events as events;
 ghost use Rattle.gw_store.specs.SeenEvents.{seen_object, seen_read, seen_written};
 
 use crate::event::{Event, EventType, Object, Read};
+use crate::incoming::IncomingSlice;
 use gw_json::{Cursor, Refusal, read_value};
 use gw_objects::{
     read_class, read_gateway, read_grant, read_key, read_meta, read_namespace, read_service,
@@ -95,7 +96,7 @@ fn read_body(alloc: Global, kind: Kind, meta: Meta, at: &Cursor<'_>) -> Result<O
             read_namespace(alloc, meta, at)?,
         )?)),
         Kind::Service => Ok(Object::Service(Incoming::new(alloc, read_service(alloc, meta, at)?)?)),
-        Kind::EndpointSlice => Ok(Object::EndpointSlice(Incoming::new(
+        Kind::EndpointSlice => Ok(Object::EndpointSlice(IncomingSlice::new(
             alloc,
             read_slice(alloc, meta, at)?,
         )?)),

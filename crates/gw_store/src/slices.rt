@@ -1,17 +1,18 @@
 //! The EndpointSlices that are held, and which of them are of a Service.
-ghost use Rattle.std.specs.Prelude.{◌≡◌, ◌<◌, [], length, map, filter, is_some, All, IfOk, OnOk, vec_len, vec_capacity, slice_get};
-ghost use Rattle.std.specs.List.{filter_map};
+ghost use Rattle.std.specs.Prelude.{◌≡◌, ◌<◌, [], length, map, filter, is_some, IfOk, OnOk};
 ghost use Rattle.gw_text.specs.model.References.{is_slice_of};
 ghost use Rattle.gw_text.specs.model.Stored.{put, remove, stored_at, in_namespace, objects_of, IsInKeyOrder};
 ghost use Rattle.gw_text.specs.model.World.{slice_key};
-ghost use Rattle.gw_store.specs.ByService.{slice_digest, service_digest};
+ghost use Rattle.gw_store.specs.ByService.{IsLeftBy, before_change, put_by};
 
-use crate::by_service::{ByService, Place, service_digest, slice_digest};
-use crate::table::{Keyed, Table};
+use crate::by_service::{ByService, IndexChange, ServiceSlice, service_digest, slice_digest};
+use crate::incoming::IncomingSlice;
+use crate::table::{Displaced, Keyed, Table};
 use gw_objects::EndpointSlice;
-use gw_text::{Incoming, Key, NoMemory, Second, Stored, Text};
+use gw_text::{Key, NoMemory, Second, Stored, Text};
 use std::alloc::Global;
 use std::marker::Model;
+use std::snapshot::Snapshot;
 
 /// The EndpointSlices in key order, of which those of a Service are found without walking the others.
 #[derive(Drop)]
@@ -21,16 +22,36 @@ pub struct Slices {
 }
 
 impl Model for Slices {
-    ghost use Rattle.std.specs.Prelude.{◌-◌, min, vec_len, vec_capacity};
-    ghost use Rattle.gw_text.specs.model.Slices.{EndpointSlice as Plain};
-    ghost use Rattle.gw_store.specs.ByService.{IsIndexOf, digests_of};
-    ghost use Rattle.gw_store.specs.Table.{Content};
+    ghost use Rattle.gw_text.specs.model.Stored.{objects_of};
+    ghost use Rattle.gw_store.specs.ByService.{IsIndexOf, Slices as Plain};
 
-    ghost Value = { Content Plain };
+    ghost Value = { Plain };
 
-    ghost view = { λ s. record { stored = s.table.stored; spare = min s.table.spare (vec_capacity s.by_service.places - vec_len s.by_service.places) } };
+    ghost view = { λ s. record { stored = s.table.stored; spare = s.table.spare; index = s.by_service } };
 
-    ghost invariant = { λ s. IsIndexOf (digests_of s.table.stored) s.by_service.places.items };
+    ghost invariant = { λ s. IsIndexOf (objects_of s.table.stored) s.by_service.slices };
+}
+
+/// What a put or a removal of a slice displaced: what it takes to undo it, with no memory.
+#[derive(Drop)]
+pub struct DisplacedSlice {
+    table: Displaced<EndpointSlice>,
+    /// What left the index, where the slice that was held is of another Service or is removed.
+    first: Option<IndexChange>,
+    /// What entered it.
+    second: Option<IndexChange>,
+    before: Snapshot<Slices>,
+    after: Snapshot<Slices>,
+}
+
+impl Model for DisplacedSlice {
+    ghost use Rattle.gw_store.specs.ByService.{IsSliceChange, SliceChange};
+
+    ghost Value = { SliceChange };
+
+    ghost view = { λ d. record { before = d.before.value; after = d.after.value; put = d.table.put } };
+
+    ghost invariant = { λ d. IsSliceChange d.table d.first d.second d.before.value d.after.value };
 }
 
 impl Slices {
@@ -47,7 +68,9 @@ impl Slices {
     /// Makes room for one slice more.
     pub fn reserve(&mut self) -> Result<(), NoMemory>
         ensures stored { self.new.stored ≡ self.old.stored }
+        ensures slices { self.new.index.slices ≡ self.old.index.slices }
         ensures ok { OnOk result (0 < self.new.spare) }
+        ensures index { OnOk result (0 < self.new.index.spare) }
     {
         self.table.reserve()?;
         self.by_service.reserve()
@@ -76,36 +99,75 @@ impl Slices {
     }
 
     /// Holds `slice` under its key, in place of the one that is held there, whose first moment stays.
-    pub fn put(&mut self, slice: Incoming<EndpointSlice>, now: Second)
-        requires { 0 < self.old.spare }
-        ensures { self.new.stored ≡ put slice_key slice now self.old.stored }
+    pub fn put(&mut self, slice: IncomingSlice, now: Second) -> DisplacedSlice
+        requires spare { 0 < self.old.spare }
+        requires index { 0 < self.old.index.spare }
+        ensures stored { self.new.stored ≡ put slice_key slice now self.old.stored }
+        ensures displaced { result ≡ record { before = self.old; after = self.new; put = Some slice } }
     {
-        let digest = slice_digest(&slice);
-        let count = self.table.len();
-        match self.table.place_of(slice.key()) {
+        let before = Snapshot::of(self);
+        let slices = self.table.objects();
+        let first = match self.table.place_of(slice.key()) {
             Ok(at) => {
                 // Most changes of a slice leave it to its Service.
-                if slice_digest(&self.table.objects()[at]) != digest {
-                    self.by_service.remove(at);
-                    self.by_service.insert(at, digest, count);
+                let held = &slices[at];
+                if slice_digest(held) != slice.digest() {
+                    Some(self.by_service.remove(held))
+                } else {
+                    None
                 }
             }
-            Err(at) => self.by_service.insert(at, digest, count),
+            Err(_) => None,
+        };
+        let (slice, of_service) = slice.into_handles();
+        let second = Some(self.by_service.put(of_service));
+        let table = self.table.put(slice, now);
+        DisplacedSlice {
+            table,
+            first,
+            second,
+            before,
+            after: Snapshot::of(self),
         }
-        self.table.put(slice, now);
     }
 
     /// Takes away the slice of this key, if there is one.
-    pub fn remove(&mut self, key: &Key)
-        ensures { self.new.stored ≡ remove slice_key key.now self.old.stored }
+    pub fn remove(&mut self, key: &Key) -> DisplacedSlice
+        ensures stored { self.new.stored ≡ remove slice_key key.now self.old.stored }
+        ensures displaced { result ≡ record { before = self.old; after = self.new; put = None } }
     {
-        match self.table.place_of(key) {
-            Ok(at) => {
-                self.by_service.remove(at);
-                self.table.remove(key);
-            }
-            Err(_) => {}
+        let before = Snapshot::of(self);
+        let first = match self.table.place_of(key) {
+            Ok(at) => Some(self.by_service.remove(&self.table.objects()[at])),
+            Err(_) => None,
+        };
+        let table = self.table.remove(key);
+        DisplacedSlice {
+            table,
+            first,
+            second: None,
+            before,
+            after: Snapshot::of(self),
         }
+    }
+
+    /// The slices as they were before a put or a removal, which gives the slice up that it put.
+    pub fn undo(&mut self, displaced: DisplacedSlice) -> Option<IncomingSlice>
+        requires { self.old ≡ displaced.after }
+        ensures slices { self.new ≡ displaced.before }
+        ensures put { result ≡ displaced.put }
+    {
+        let DisplacedSlice {
+            table,
+            first,
+            second,
+            before: _,
+            after: _,
+        } = displaced;
+        let of_service = undo_index(&mut self.by_service, second);
+        undo_index(&mut self.by_service, first);
+        let slice = self.table.undo(table);
+        Some(IncomingSlice::of_handles(slice?, of_service?))
     }
 
     /// The slices of a namespace, in key order.
@@ -121,25 +183,26 @@ impl Slices {
         ensures { IfOk result (λ slices. filter (is_slice_of service.now) (map (λ s. s.now) slices.items) ≡ filter (is_slice_of service.now) (objects_of self.now.stored)) }
     {
         let digest = service_digest(service.namespace.bytes(), service.name.bytes());
-        at_places(
-            alloc,
-            self.table.objects(),
-            self.by_service.of_digest(digest),
-        )
+        plain(alloc, self.by_service.of_digest(digest))
     }
 }
 
-fn at_places<'s>(
-    alloc: Global,
-    slices: &'s [Stored<EndpointSlice>],
-    places: &[Place],
-) -> Result<Vec<&'s EndpointSlice>, NoMemory>
-    requires { All (λ p. p.at < length slices.now) places.now }
-    ensures { IfOk result (λ found. map (λ s. s.now) found.items ≡ filter_map (λ p. slice_get (objects_of slices.now) p.at) places.now) }
+// The index before a change, which gives the slice up that it put, if there was one.
+fn undo_index(index: &mut ByService, change: Option<IndexChange>) -> Option<ServiceSlice>
+    requires { IsLeftBy change index.old }
+    ensures index { index.new ≡ before_change change index.old }
+    ensures put { result ≡ put_by change }
+{
+    index.undo(change?)
+}
+
+// The slices themselves.
+fn plain(alloc: Global, slices: &[ServiceSlice]) -> Result<Vec<&EndpointSlice>, NoMemory>
+    ensures { IfOk result (λ found. map (λ s. s.now) found.items ≡ slices.now) }
 {
     let mut found = Vec::new(alloc);
-    for place in places {
-        let slice: &EndpointSlice = &slices[place.at];
+    for slice in slices {
+        let slice: &EndpointSlice = slice;
         found.push(slice)?;
     }
     Ok(found)

@@ -1,16 +1,18 @@
-ghost use Rattle.std.specs.Prelude.{◌≡◌, ◌<◌, ◌++◌, [], length, codes, nat_eq, IfOk, IfSome, OnOk, MatchResult, is_some, option_copied};
+ghost use Rattle.std.specs.Prelude.{◌≡◌, ◌<◌, ◌≤◌, ◌++◌, [], length, set, codes, nat_eq, Some, None, IfOk, IfSome, OnOk, MatchResult, is_some, option_copied};
 ghost use Rattle.std.specs.Cmp.Lexicographic.{slice_cmp};
-ghost use Rattle.std.specs.List.{starts_with};
+ghost use Rattle.std.specs.List.{insert, remove as remove_place, starts_with};
 ghost use Rattle.std.specs.List.Sorted.{IsSearchInRange};
 ghost use Rattle.std.specs.Ordering.{is_lt, nat_cmp};
 ghost use Rattle.gw_text.specs.model.Names.{cluster_key, joined, key_order};
 ghost use Rattle.gw_text.specs.model.Stored.{put, remove, stored_at, stored_key, in_namespace, IsInKeyOrder};
-ghost use Rattle.gw_store.specs.Table.{AllKeys, StandsAt, IsMissingAt, IsPlaceOf, at_place};
+ghost use Rattle.gw_store.specs.Table.{AllKeys, IsTable, StandsAt, IsMissingAt, IsPlaceOf, at_place};
 
+use crate::change::Change;
 use gw_text::{Incoming, Key, Name, NoMemory, Second, Stored, Text};
 use std::alloc::Global;
 use std::cmp::Ordering;
 use std::marker::Model;
+use std::snapshot::Snapshot;
 
 /// An object with a key, in whose order it is held.
 pub trait Keyed {
@@ -41,6 +43,26 @@ impl<T: Keyed + Drop> Model for Table<T> {
     ghost view = { λ t. record { stored = t.stored.items; spare = vec_capacity t.stored - vec_len t.stored } };
 
     ghost invariant = { λ t. IsTable T.key t.stored.items };
+}
+
+/// What a put or a removal displaced, and where: what it takes to undo it, with no memory.
+#[derive(Drop)]
+pub struct Displaced<T: Keyed + Drop> {
+    change: Change<Stored<T>>,
+    before: Snapshot<Table<T>>,
+    after: Snapshot<Table<T>>,
+}
+
+impl<T: Keyed + Drop> Model for Displaced<T> {
+    ghost use Rattle.std.specs.Prelude.{option_map};
+    ghost use Rattle.gw_store.specs.Changes.{there};
+    ghost use Rattle.gw_store.specs.Table.{Displacement, IsKept};
+
+    ghost Value = { Displacement T };
+
+    ghost view = { λ d. record { before = d.before.value; after = d.after.value; put = option_map (λ s. s.object) (there d.change.at d.change.has d.after.value.stored) } };
+
+    ghost invariant = { λ d. IsKept T.key d.change.at d.change.had d.change.has d.before.value d.after.value };
 }
 
 impl<T: Keyed + Drop> Table<T> {
@@ -78,29 +100,105 @@ impl<T: Keyed + Drop> Table<T> {
     }
 
     /// Holds `object` under its key, in place of the one that is held there, whose first moment stays.
-    pub fn put(&mut self, object: Incoming<T>, now: Second)
+    pub fn put(&mut self, object: Incoming<T>, now: Second) -> Displaced<T>
         requires { 0 < self.old.spare }
-        ensures { self.new.stored ≡ put T.key object now self.old.stored }
+        ensures stored { self.new.stored ≡ put T.key object now self.old.stored }
+        ensures displaced { result ≡ record { before = self.old; after = self.new; put = Some object } }
     {
         match place(self.stored.as_slice(), object.key()) {
             Ok(at) => {
                 let first = self.stored[at].first();
-                self.stored[at] = object.stored(first);
+                self.set(at, object.stored(first))
             }
-            Err(at) => self.stored.insert(at, object.stored(now)).unwrap(),
+            Err(at) => self.insert(at, object.stored(now)),
         }
     }
 
     /// Takes away the object of this key, if there is one.
-    pub fn remove(&mut self, key: &Key)
-        ensures { self.new.stored ≡ remove T.key key.now self.old.stored }
+    pub fn remove(&mut self, key: &Key) -> Displaced<T>
+        ensures stored { self.new.stored ≡ remove T.key key.now self.old.stored }
+        ensures displaced { result ≡ record { before = self.old; after = self.new; put = None } }
     {
         match place(self.stored.as_slice(), key) {
-            Ok(at) => {
-                self.stored.remove(at);
-            }
-            Err(_) => {}
+            Ok(at) => self.remove_at(at),
+            Err(_) => self.unchanged(),
         }
+    }
+
+    // Holds the object in the place of another, with which this is a table.
+    fn set(&mut self, at: usize, object: Stored<T>) -> Displaced<T>
+        requires within { at < length self.old.stored }
+        requires table { IsTable T.key (set self.old.stored at object) }
+        ensures stored { self.new.stored ≡ set self.old.stored at object }
+        ensures displaced { result ≡ record { before = self.old; after = self.new; put = Some object.object } }
+    {
+        let before = Snapshot::of(self);
+        let change = Change::set(&mut self.stored, at, object);
+        Displaced {
+            change,
+            before,
+            after: Snapshot::of(self),
+        }
+    }
+
+    // Holds the object between others, with which this is a table.
+    fn insert(&mut self, at: usize, object: Stored<T>) -> Displaced<T>
+        requires place { at ≤ length self.old.stored }
+        requires room { 0 < self.old.spare }
+        requires table { IsTable T.key (insert self.old.stored at object) }
+        ensures stored { self.new.stored ≡ insert self.old.stored at object }
+        ensures displaced { result ≡ record { before = self.old; after = self.new; put = Some object.object } }
+    {
+        let before = Snapshot::of(self);
+        let change = Change::insert(&mut self.stored, at, object);
+        Displaced {
+            change,
+            before,
+            after: Snapshot::of(self),
+        }
+    }
+
+    // Takes the object of a place away, without which this is a table.
+    fn remove_at(&mut self, at: usize) -> Displaced<T>
+        requires within { at < length self.old.stored }
+        requires table { IsTable T.key (remove_place self.old.stored at) }
+        ensures stored { self.new.stored ≡ remove_place self.old.stored at }
+        ensures displaced { result ≡ record { before = self.old; after = self.new; put = None } }
+    {
+        let before = Snapshot::of(self);
+        let change = Change::remove(&mut self.stored, at);
+        Displaced {
+            change,
+            before,
+            after: Snapshot::of(self),
+        }
+    }
+
+    // No change.
+    fn unchanged(&self) -> Displaced<T>
+        ensures { result ≡ record { before = self.now; after = self.now; put = None } }
+    {
+        let _ = &self.stored;
+        Displaced {
+            change: Change::nothing(),
+            before: Snapshot::of(self),
+            after: Snapshot::of(self),
+        }
+    }
+
+    /// The table as it was before a put or a removal, which gives the object up that it put.
+    pub fn undo(&mut self, displaced: Displaced<T>) -> Option<Incoming<T>>
+        requires { self.old ≡ displaced.after }
+        ensures table { self.new ≡ displaced.before }
+        ensures put { result ≡ displaced.put }
+    {
+        let Displaced {
+            change,
+            before: _,
+            after: _,
+        } = displaced;
+        let put = change.undo(&mut self.stored)?;
+        Some(put.incoming())
     }
 
     /// Whether an object is held under `key`.

@@ -52,7 +52,7 @@ impl Model for World {
         slices = w.slices.stored;
         changes = w.changes;
       };
-      spare = min w.classes.spare (min w.gateways.spare (min w.routes.spare (min w.grants.spare (min w.namespaces.spare (min w.services.spare w.slices.spare)))));
+      spare = min w.classes.spare (min w.gateways.spare (min w.routes.spare (min w.grants.spare (min w.namespaces.spare (min w.services.spare (min w.slices.spare w.slices.index.spare))))));
     } };
 }
 
@@ -170,13 +170,13 @@ impl World {
         ensures { self.new.world ≡ worlds.put_object self.old.world (seen_object object) at }
     {
         match object {
-            Object::GatewayClass(class) => self.classes.put(class, at),
-            Object::Gateway(gateway) => self.gateways.put(gateway, at),
-            Object::HttpRoute(route) => self.routes.put(route, at),
-            Object::ReferenceGrant(grant) => self.grants.put(grant, at),
-            Object::Namespace(namespace) => self.namespaces.put(namespace, at),
-            Object::Service(service) => self.services.put(service, at),
-            Object::EndpointSlice(slice) => self.slices.put(slice, at),
+            Object::GatewayClass(class) => drop(self.classes.put(class, at)),
+            Object::Gateway(gateway) => drop(self.gateways.put(gateway, at)),
+            Object::HttpRoute(route) => drop(self.routes.put(route, at)),
+            Object::ReferenceGrant(grant) => drop(self.grants.put(grant, at)),
+            Object::Namespace(namespace) => drop(self.namespaces.put(namespace, at)),
+            Object::Service(service) => drop(self.services.put(service, at)),
+            Object::EndpointSlice(slice) => drop(self.slices.put(slice, at)),
         }
     }
 
@@ -184,13 +184,13 @@ impl World {
         ensures { self.new.world ≡ worlds.remove_key self.old.world kind key.now }
     {
         match kind {
-            Kind::GatewayClass => self.classes.remove(key),
-            Kind::Gateway => self.gateways.remove(key),
-            Kind::HttpRoute => self.routes.remove(key),
-            Kind::ReferenceGrant => self.grants.remove(key),
-            Kind::Namespace => self.namespaces.remove(key),
-            Kind::Service => self.services.remove(key),
-            Kind::EndpointSlice => self.slices.remove(key),
+            Kind::GatewayClass => drop(self.classes.remove(key)),
+            Kind::Gateway => drop(self.gateways.remove(key)),
+            Kind::HttpRoute => drop(self.routes.remove(key)),
+            Kind::ReferenceGrant => drop(self.grants.remove(key)),
+            Kind::Namespace => drop(self.namespaces.remove(key)),
+            Kind::Service => drop(self.services.remove(key)),
+            Kind::EndpointSlice => drop(self.slices.remove(key)),
         }
     }
 

@@ -1,20 +1,37 @@
--- The place is left out, and those behind move down.
-use Rattle.std.proofs.Common.{◌≡◌, ◌∙◌, ap, sym, subst, map, filter, length, rules, remove}
-use Rattle.std.proofs.lemmas.Fn.{filter_same}
-use Rattle.std.proofs.lemmas.List.{length-map, with_items_is}
-use Rattle.gw_store.specs.declared.by_service.Place.{Place}
-use Rattle.gw_store.specs.ByService.{moved_down, IsIndexOf}
-use Rattle.gw_store.proofs.Indexes.{stays, index_remove}
+-- What stands at the place that the search finds is taken away.
+use Rattle.std.proofs.Common.{Ok, Err, rules}
+use Rattle.std.specs.Ordering.{is_ne, nat_cmp, ordering_then}
+use Rattle.std.proofs.lemmas.Fn.{always_returns_same}
+use Rattle.std.proofs.lemmas.List.Kept.{IsStrictlySortedBy-filter}
+use Rattle.gw_text.specs.model.Names.{key_order}
+use Rattle.gw_text.specs.model.World.{slice_key}
+use Rattle.gw_store.specs.ByService.{slice_digest, service_order, without}
+use Rattle.gw_store.proofs.Digests.{placed}
+use Rattle.gw_store.proofs.InOrder.{remove_standing, remove_missing}
 use Rattle.gw_store.proofs.by_service.ByService.remove.Goals as goal
-use Rattle.std.proofs.Common.{List}
 
-pub returns-clause-index : goal.returns-clause-index
-returns-clause-index c digests index within =
-    let at = c.args.at in
-    let places = c.args.self.now.places.items in
-    let kept : c.retain.new.self.items ≡ filter (stays digests at within) places = filter_same _ _ _ (λ x b f' k. search rules) _ _ c.retain.ensures.filtered in
-    let moved : c.move_down.new.places ≡ map (moved_down at) c.retain.new.self.items = c.move_down.ensures ∙ ap (map (moved_down at)) c.as_mut_slice.ensures.value in
-    let size : length c.move_down.new.places ≡ c.retain.new.self.len =
-    ap length moved ∙ (length-map c.retain.new.self.items (moved_down at) ∙ sym c.retain.new.self.ok.0) in
-    subst (λ (ps : List Place). IsIndexOf (remove digests at) ps) (sym (with_items_is c.retain.new.self c.move_down.new.places size ∙ (moved ∙ ap (map (moved_down at)) kept)))
-    (index_remove digests at within places index)
+pub remove_at-requires-clause-order : goal.remove_at-requires-clause-order
+remove_at-requires-clause-order c =
+    let x = c.args.slice.now in
+    let slices = c.self.inside.slices.items in
+    let place = placed x c.slice_digest-digest.result c.key-key.result.now c.as_slice-slices.result.now slices (Ok c.in-Ok.at) c.slice_digest-digest.ensures c.key-key.ensures.value c.as_slice-slices.ensures.value c.self.invariant c.in-Ok.ensures.bound
+    (c.in-Ok.ensures.position (λ s. ordering_then (nat_cmp (slice_digest s) c.slice_digest-digest.result) (key_order (slice_key s) c.key-key.result.now)) (always_returns_same _ _ _ (λ s r q k. search rules))) in
+    rw (← c.self.view_is, remove_standing service_order x slices c.in-Ok.at place) (IsStrictlySortedBy-filter service_order (λ s. is_ne (service_order s x)) slices c.self.invariant)
+
+pub returns-in-Ok-clause-slices : goal.returns-in-Ok-clause-slices
+unfolding without
+returns-in-Ok-clause-slices c =
+    let x = c.args.slice.now in
+    let slices = c.self.inside.slices.items in
+    let place = placed x c.slice_digest-digest.result c.key-key.result.now c.as_slice-slices.result.now slices (Ok c.in-Ok.at) c.slice_digest-digest.ensures c.key-key.ensures.value c.as_slice-slices.ensures.value c.self.invariant c.in-Ok.ensures.bound
+    (c.in-Ok.ensures.position (λ s. ordering_then (nat_cmp (slice_digest s) c.slice_digest-digest.result) (key_order (slice_key s) c.key-key.result.now)) (always_returns_same _ _ _ (λ s r q k. search rules))) in
+    rw (c.remove_at.ensures.slices, ← c.self.view_is) (remove_standing service_order x slices c.in-Ok.at place)
+
+pub returns-in-Err-clause-slices : goal.returns-in-Err-clause-slices
+unfolding without
+returns-in-Err-clause-slices c =
+    let x = c.args.slice.now in
+    let slices = c.self.inside.slices.items in
+    let place = placed x c.slice_digest-digest.result c.key-key.result.now c.as_slice-slices.result.now slices (Err c.in-Err.field-0) c.slice_digest-digest.ensures c.key-key.ensures.value c.as_slice-slices.ensures.value c.self.invariant c.in-Err.ensures.bound
+    (c.in-Err.ensures.position (λ s. ordering_then (nat_cmp (slice_digest s) c.slice_digest-digest.result) (key_order (slice_key s) c.key-key.result.now)) (always_returns_same _ _ _ (λ s r q k. search rules))) in
+    rw (← c.self.view_is) (remove_missing service_order x slices c.in-Err.field-0 place)

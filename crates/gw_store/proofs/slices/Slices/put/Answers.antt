@@ -1,56 +1,51 @@
 -- The index follows the slices in each of the three ways that a put goes.
-use Rattle.std.proofs.Common.{◌≡◌, ◌∙◌, ◌<◌, ◌≤◌, length, List, ℕ, get_or, sym, ap, arith}
-use Rattle.std.proofs.lemmas.List.Edits.{length-remove}
-use Rattle.gw_text.specs.model.World.{slice_key}
-use Rattle.gw_text.specs.model.Stored.{Stored, put}
+use Rattle.std.proofs.Common.{◌≡◌, ◌∙◌, ◌==◌, false, ap, sym, get_or, arith}
+use Rattle.std.proofs.lemmas.Bool.Decides.{nat_tests}
 use Rattle.gw_text.specs.model.Slices.{EndpointSlice}
-use Rattle.gw_store.specs.ByService.{IsIndexOf, digests_of, slice_digest}
-use Rattle.gw_store.proofs.Places.{stands_within}
-use Rattle.gw_store.proofs.SlicesOf.{count_digests, digests_grown, digests_kept, digests_moved, places_below}
-use Rattle.std.specs.List.{remove as remove_at}
+use Rattle.gw_text.specs.model.Stored.{Stored, put, IsInKeyOrder}
+use Rattle.gw_text.specs.model.World.{slice_key}
+use Rattle.gw_store.specs.ByService.{slice_digest, put_slice, without}
+use Rattle.gw_store.specs.Table.{StandsAt, IsMissingAt}
+use Rattle.gw_store.proofs.SlicesOf.{index_grown, index_kept, index_moved}
 use Rattle.gw_store.proofs.slices.Slices.put.Goals as goal
 use Rattle.gw_store.proofs.slices.Slices.put.Goals.{in-Ok+then-slice_digest-digest, in-Ok+else-slice_digest-digest, in-Err}
-
-pub insert-requires-clause-count : goal.insert-requires-clause-count
-insert-requires-clause-count c =
-    let hs = c.self.inside.table.stored in
-    let at = c.in-Ok.at in
-    let within : at < length (digests_of hs) = rw (count_digests hs) (stands_within slice_key _ hs at c.in-Ok.ensures.place) in
-    let fewer = length-remove (digests_of hs) at within in
-    let all = count_digests hs in
-    places_below (remove_at (digests_of hs) at) c.remove.new.self.places.items c.len-count.result (c.remove.ensures.index (digests_of hs) c.self.invariant within) (omega (arith, fewer, all, c.len-count.ensures))
 
 pub invariant_of-self : goal.invariant_of-self
 invariant_of-self c =
     let hs = c.self.inside.table.stored in
+    let index = c.self.inside.by_service.slices in
     let x = c.args.slice in
     let now = c.args.now in
-    let digest = c.slice_digest-digest.result in
-    let is : digest ≡ slice_digest x = c.slice_digest-digest.ensures ∙ ap slice_digest c.deref.ensures in
+    let order : IsInKeyOrder slice_key hs = rw c.objects-slices.ensures.value at c.objects-slices.ensures.order in
     elim c.match-place_of.branch [
       | in-Ok+then-slice_digest-digest w ↦ (
           let at = w.in-Ok.at in
-          let stands = rw (c.key.ensures.value, c.deref-2.ensures) at w.in-Ok.ensures.place in
-          let within : at < length (digests_of hs) = rw (count_digests hs) (stands_within slice_key (slice_key x) hs at stands) in
-          let fewer = length-remove (digests_of hs) at within in
-          let index = w.insert.ensures (remove_at (digests_of hs) at) (w.remove.ensures.index (digests_of hs) c.self.invariant within) (omega (arith, fewer, within)) in
-          let stored : c.put.new.self.stored ≡ put slice_key x now hs = rw w.self-inside-is at c.put.ensures in
-          rw (stored, ← digests_moved x now hs at digest stands is, w.self-inside-is) index)
+          let stands : StandsAt slice_key (slice_key x) hs at = rw (c.key.ensures.value, c.deref.ensures) at w.in-Ok.ensures.place in
+          let held = w.index-slices-at.result in
+          let read : held ≡ get_or hs at held = rw c.objects-slices.ensures.value at w.index-slices-at.is in
+          let object : held.object ≡ (get_or hs at held).object = ap (λ (h : Stored EndpointSlice). h.object) read in
+          let apart : (w.slice_digest.result == w.digest.result) ≡ false = grind (arith, nat_tests, w.if-slice_digest-digest.true) in
+          let own : w.slice_digest.result ≡ slice_digest (get_or hs at held).object = w.slice_digest.ensures ∙ ap slice_digest (w.deref-in-Ok.ensures ∙ object) in
+          let moved : (slice_digest (get_or hs at held).object == slice_digest x) ≡ false = rw (own, w.digest.ensures) at apart in
+          let left : w.remove.new.self.slices ≡ without (get_or hs at held).object index =
+          w.remove.ensures.slices ∙ ap (λ (s : EndpointSlice). without s index) (w.deref-then-slice_digest-digest.ensures ∙ object) in
+          let indexed : c.put.new.self.slices ≡ put_slice x w.remove.new.self.slices = rw (w.self-inside-is, c.into_handles-slice.ensures.of_service) at c.put.ensures.slices in
+          let stored : c.put-table.new.self.stored ≡ put slice_key x now hs = rw (w.self-inside-is, c.into_handles-slice.ensures.slice) at c.put-table.ensures.stored in
+          rw (indexed, left, stored) (index_moved x now hs index at held order c.self.invariant stands moved))
       | in-Ok+else-slice_digest-digest w ↦ (
           let at = w.in-Ok.at in
-          let stands = rw (c.key.ensures.value, c.deref-2.ensures) at w.in-Ok.ensures.place in
-          let stored : c.put.new.self.stored ≡ put slice_key x now hs = rw w.self-inside-is at c.put.ensures in
-          let held = w.index-objects-at.result in
-          let read : get_or hs at held ≡ held = sym (rw w.objects.ensures.value at w.index-objects-at.is) in
-          let equal : w.slice_digest.result ≡ digest = omega (arith, w.if-slice_digest-digest.false) in
-          let same : slice_digest (get_or hs at held).object ≡ digest =
-          ap (λ (h : Stored EndpointSlice). slice_digest h.object) read ∙ (sym (w.slice_digest.ensures ∙ ap slice_digest w.deref-in-Ok.ensures) ∙ equal) in
-          rw (stored, ← digests_kept x now hs at digest held stands is same, w.self-inside-is) c.self.invariant)
+          let stands : StandsAt slice_key (slice_key x) hs at = rw (c.key.ensures.value, c.deref.ensures) at w.in-Ok.ensures.place in
+          let held = w.index-slices-at.result in
+          let read : held ≡ get_or hs at held = rw c.objects-slices.ensures.value at w.index-slices-at.is in
+          let object : held.object ≡ (get_or hs at held).object = ap (λ (h : Stored EndpointSlice). h.object) read in
+          let equal : w.slice_digest.result ≡ w.digest.result = omega (arith, w.if-slice_digest-digest.false) in
+          let own : w.slice_digest.result ≡ slice_digest (get_or hs at held).object = w.slice_digest.ensures ∙ ap slice_digest (w.deref-in-Ok.ensures ∙ object) in
+          let indexed : c.put.new.self.slices ≡ put_slice x index = rw (w.self-inside-is, c.into_handles-slice.ensures.of_service) at c.put.ensures.slices in
+          let stored : c.put-table.new.self.stored ≡ put slice_key x now hs = rw (w.self-inside-is, c.into_handles-slice.ensures.slice) at c.put-table.ensures.stored in
+          rw (indexed, stored) (index_kept x now hs index at held order c.self.invariant stands (sym own ∙ (equal ∙ w.digest.ensures))))
       | in-Err w ↦ (
-          let at = w.in-Err.at in
-          let missing = rw (c.key.ensures.value, c.deref-2.ensures) at w.in-Err.ensures.place in
-          let within : at ≤ length (digests_of hs) = rw (count_digests hs) w.in-Err.ensures.range in
-          let index = w.insert-in-Err.ensures (digests_of hs) c.self.invariant within in
-          let stored : c.put.new.self.stored ≡ put slice_key x now hs = rw w.self-inside-is at c.put.ensures in
-          rw (stored, ← digests_grown x now hs at digest missing is, w.self-inside-is) index)
+          let missing : IsMissingAt slice_key (slice_key x) hs w.in-Err.field-0 = rw (c.key.ensures.value, c.deref.ensures) at w.in-Err.ensures.place in
+          let indexed : c.put.new.self.slices ≡ put_slice x index = rw (w.self-inside-is, c.into_handles-slice.ensures.of_service) at c.put.ensures.slices in
+          let stored : c.put-table.new.self.stored ≡ put slice_key x now hs = rw (w.self-inside-is, c.into_handles-slice.ensures.slice) at c.put-table.ensures.stored in
+          rw (indexed, stored) (index_grown x now hs index w.in-Err.field-0 order c.self.invariant missing))
     ]

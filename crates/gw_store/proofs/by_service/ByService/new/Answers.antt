@@ -1,0 +1,7 @@
+-- No slices are in order.
+use Rattle.std.specs.List.Sorted.{IsStrictlySortedBy}
+use Rattle.gw_store.proofs.by_service.ByService.new.Goals as goal
+
+pub invariant_of-result : goal.invariant_of-result
+unfolding IsStrictlySortedBy
+invariant_of-result c = rw c.new.ensures.items tt
