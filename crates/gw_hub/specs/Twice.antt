@@ -1,4 +1,4 @@
--- A change that is read twice.
+-- A change that is shared.
 use Rattle.std.specs.Prelude.{◌≡◌, Option, None, Some, Result, Ok}
 use Rattle.gw_json.specs.declared.refusal.Refusal.{Refusal}
 use Rattle.gw_store.specs.Events.{Read, a_change, is_skipped}

@@ -102,7 +102,7 @@ impl Controller {
         ensures doors { self.new.doors ≡ self.old.doors }
         ensures controller { self.new.controller ≡ self.old.controller }
     {
-        let Some((event, again)) = read_twice(self.alloc, line)? else {
+        let Some((event, again)) = read_shared(self.alloc, line)? else {
             return Ok(Outcome::Skipped);
         };
         self.world.check(&event)?;
@@ -183,16 +183,14 @@ fn unpublished(
     snapshots(alloc, first, places)
 }
 
-// The change that a line is, twice, since what is held and the list of changes each keep it; none where it is skipped.
-fn read_twice(alloc: Global, line: &[u8]) -> Result<Option<(Event, Event)>, Refusal>
+// The change that a line is, twice, since what is held and the list of changes each keep it: they share its object. None where it is skipped.
+fn read_shared(alloc: Global, line: &[u8]) -> Result<Option<(Event, Event)>, Refusal>
     ensures ok { IfOk result (λ twice. IsTwice twice (read_of line.now)) }
     ensures err { IfErr result (λ e. Fails e (read_of line.now)) }
 {
-    let Read::Change(first) = read_event(alloc, line)? else {
+    let Read::Change(event) = read_event(alloc, line)? else {
         return Ok(None);
     };
-    let Read::Change(second) = read_event(alloc, line)? else {
-        return Ok(None);
-    };
-    Ok(Some((first, second)))
+    let again = event.share(alloc)?;
+    Ok(Some((event, again)))
 }
