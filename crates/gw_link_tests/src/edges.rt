@@ -67,6 +67,13 @@ fn echo_next<A: Acceptor>(acceptor: &mut A) -> Next<(), Failed> {
     }
 }
 
+fn are_one_and_two(closed: &[MemLink]) -> bool {
+    match closed {
+        [one, two] => one.written() == b"one".as_slice() && two.written() == b"two".as_slice(),
+        _ => false,
+    }
+}
+
 #[test]
 fn an_acceptor_gives_each_link_once(rt: HostRuntime) -> Result<(), Fail> {
     let mut acceptor = acceptor(rt.alloc(), &[b"one", b"two"], &[1])?;
@@ -75,10 +82,7 @@ fn an_acceptor_gives_each_link_once(rt: HostRuntime) -> Result<(), Fail> {
     assert!(rt; acceptor.faults() == 1 && acceptor.starved() == 0 && acceptor.coming().len() == 1);
     assert!(rt; matches!(echo_next(&mut acceptor), Next::Whole(())));
     assert!(rt; matches!(echo_next(&mut acceptor), Next::Done));
-    for (link, text) in acceptor.closed().iter().zip(&[b"one".as_slice(), b"two"]) {
-        assert!(rt; link.written() == *text && link.left().is_empty());
-    }
-    assert!(rt; acceptor.closed().len() == 2 && acceptor.coming().is_empty());
+    assert!(rt; are_one_and_two(acceptor.closed()) && acceptor.coming().is_empty());
     Ok(())
 }
 
