@@ -129,7 +129,7 @@ fn a_crew_runs_its_jobs_in_turn(rt: HostRuntime) -> Result<(), Fail> {
     for acceptor in acceptors {
         let served = Arc::try_clone(&served)?;
         if start(&mut crew, &rt, EchoJob { acceptor, served }) == Err(EdgeFault::Failed) {
-            failed += crew.faults();
+            failed = crew.faults();
         }
     }
     crew.finish(&rt);
