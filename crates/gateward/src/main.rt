@@ -1,14 +1,15 @@
 //! gateward: a Gateway API controller. `gateward status` reads watch events, one JSON object a line, and prints the
 //! statuses of the objects that are held after them; `gateward explain` prints what becomes of a request by them;
-//! `gateward replay` reads a script of events and connections, and prints what the connections are served.
+//! `gateward replay` reads a script of events and connections, and prints what the connections are served; `gateward serve`
+//! takes events at an admin endpoint, and serves the connections at its doors by them.
 #![tactic(auto)]
 
 mod output;
-mod outside;
 mod run;
 
 use gw_command::Fault;
-use outside::{StdSink, StdSource, WallClock};
+use gw_net::{LoopEdge, StdSink, StdSource, ThreadCrew, WallClock};
+use gw_snapshots::SnapFaults;
 use std::alloc::AllocError;
 use std::io::ErrorKind;
 use std::process::ExitCode;
@@ -35,14 +36,24 @@ fn main(rt: HostRuntime) -> ExitCode {
     let Ok(words) = given_words(&rt) else {
         return ExitCode::from(Fault::NoMemory.ending().exit_code);
     };
+    let Ok(clock_rt) = rt.clone() else {
+        return ExitCode::from(Fault::NoMemory.ending().exit_code);
+    };
+    let Ok(edge_rt) = rt.clone() else {
+        return ExitCode::from(Fault::NoMemory.ending().exit_code);
+    };
     let mut source = StdSource::new(rt.stdin());
     let mut sink = StdSink::new(io::writer(&rt));
     ExitCode::from(run::run(
+        &rt,
         alloc,
         words.as_slice(),
         &mut source,
         &mut sink,
-        WallClock::new(rt),
+        WallClock::new(clock_rt),
+        &mut LoopEdge::new(edge_rt),
+        &mut ThreadCrew::new(alloc),
+        &mut SnapFaults::new(),
     ))
 }
 

@@ -1,9 +1,12 @@
-//! The program over the forms in memory, and its adapters: failing calls, and what they leave. What the program prints stands in `cases/`.
+//! The program over the forms in memory: failing calls, and what they leave. What the program prints stands in `cases/`.
 use crate::run::run;
+use gw_edge::{MemCrew, MemEdge};
 use gw_link::{MemClock, MemSink, MemSource};
+use gw_snapshots::SnapFaults;
 use std::alloc::{AllocError, Global};
+use std::sync::Wait;
+use std::thread::Threads;
 
-mod edge;
 mod faults;
 
 // What a run left: its exit code, what it wrote, and what it left of its input.
@@ -15,7 +18,8 @@ struct Ran {
 }
 
 // A run of one word.
-fn run_word(
+fn run_word<R: Wait + Threads + Clone + Drop + Send + Sync + 'static>(
+    rt: &R,
     alloc: Global,
     word: &str,
     mut source: MemSource,
@@ -24,7 +28,18 @@ fn run_word(
     let mut words = Vec::new(alloc);
     words.push(String::from_str(alloc, word)?)?;
     let clock = MemClock::new(Vec::new(alloc));
-    let exit_code = run(alloc, words.as_slice(), &mut source, &mut sink, clock);
+    let mut snap = SnapFaults::new();
+    let exit_code = run(
+        rt,
+        alloc,
+        words.as_slice(),
+        &mut source,
+        &mut sink,
+        clock,
+        &mut MemEdge::new(alloc, Vec::new(alloc)),
+        &mut MemCrew::new(Vec::new(alloc)),
+        &mut snap,
+    );
     Ok(Ran {
         exit_code,
         sink,

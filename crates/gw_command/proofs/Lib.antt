@@ -1,4 +1,3 @@
 pub mod Plain
-pub mod Requests
 pub mod Starting
 pub mod Tables

@@ -7,8 +7,8 @@ use Rattle.clap.specs.Kinds.{Kinds}
 use Rattle.clap.proofs.OnLiterals.{clap_on_literals}
 use Rattle.clap.proofs.WalkLemmas.{both}
 use Rattle.gw_text.specs.model.Chains.{◌>>=◌}
-use Rattle.gw_command.specs.Words.{status, status_app, explain, explain_app, controller_by, doors_of, doors_in, found_in, status_in, status_of, explain_in, explain_by, explain_of, replay, replay_app, replay_in, replay_by, replay_of, command_of}
-use Rattle.gw_command.specs.Plain.{Plain, plain_words, is_plain, is_each_once, is_among, status_options, plain_status, explain_options, plain_explain, replay_options, plain_replay, value_given, ReadsPlain}
+use Rattle.gw_command.specs.Words.{status, status_app, explain, explain_app, controller_by, doors_of, doors_in, found_in, status_in, status_of, explain_in, explain_by, explain_of, replay, replay_app, replay_in, replay_by, replay_of, serve, serve_app, serve_in, serve_by, serve_of, command_of}
+use Rattle.gw_command.specs.Plain.{Plain, plain_words, is_plain, is_each_once, is_among, status_options, plain_status, explain_options, plain_explain, replay_options, plain_replay, serve_options, plain_serve, value_given, ReadsPlain}
 use Rattle.gw_command.proofs.Tables.{IsOption, TakesDoors, option_row, door_rows, plain_taken, value_in_rows, doors_in_rows, none_is_door}
 
 -- what is so of the first name of a table, and of the others, is so of each
@@ -191,9 +191,97 @@ replay_read : (p : Plain) → is_plain replay_options p ≡ true → replay_of (
 unfolding replay_of
 replay_read p plain = ap (λ found. found >>= replay_in) (replay_found p plain) ∙ replay_values p plain
 
+-- ---- serve
+
+abbrev for_serve : App
+for_serve = built serve_app
+
+serve_doors : TakesDoors for_serve.top
+serve_doors = record { by_index = refl; by_id = refl; again = refl; defaults = refl }
+
+serve_has_controller : IsOption for_serve.top.rules (codes "controller")
+unfolding clap_on_literals
+serve_has_controller = record {
+  needed = false;
+  by_long = refl;
+  by_id = refl;
+  joined = λ value. refl;
+  joined_dashes = λ value. refl;
+  no_door = refl;
+  apart = refl;
+  apart_dashes = refl;
+}
+
+serve_has_workers : IsOption for_serve.top.rules (codes "workers")
+unfolding clap_on_literals
+serve_has_workers = record {
+  needed = false;
+  by_long = refl;
+  by_id = refl;
+  joined = λ value. refl;
+  joined_dashes = λ value. refl;
+  no_door = refl;
+  apart = refl;
+  apart_dashes = refl;
+}
+
+serve_has_conns : IsOption for_serve.top.rules (codes "conns")
+unfolding clap_on_literals
+serve_has_conns = record {
+  needed = false;
+  by_long = refl;
+  by_id = refl;
+  joined = λ value. refl;
+  joined_dashes = λ value. refl;
+  no_door = refl;
+  apart = refl;
+  apart_dashes = refl;
+}
+
+serve_has_admin : IsOption for_serve.top.rules (codes "admin")
+unfolding clap_on_literals
+serve_has_admin = record {
+  needed = false;
+  by_long = refl;
+  by_id = refl;
+  joined = λ value. refl;
+  joined_dashes = λ value. refl;
+  no_door = refl;
+  apart = refl;
+  apart_dashes = refl;
+}
+
+serve_each : (P : Text → Type 0) → P (codes "controller") → P (codes "workers") → P (codes "conns") → P (codes "admin")
+    → (name : Text) → is_among serve_options name ≡ true → P name
+serve_each P a b c d name =
+    here P (codes "controller") name (codes "workers" ∷ codes "conns" ∷ codes "admin" ∷ []) a
+    (here P (codes "workers") name (codes "conns" ∷ codes "admin" ∷ []) b
+    (here P (codes "conns") name (codes "admin" ∷ []) c (here P (codes "admin") name [] d (nobody P name))))
+
+serve_found : (p : Plain) → is_plain serve_options p ≡ true → found_in serve_app (codes "serve" ∷ plain_words p) ≡ Some (rows_in p)
+unfolding found_in
+serve_found p plain =
+    ap (λ (r : Kinds × List Row). if length r.0 == 0 then Some r.1 else None)
+    (plain_taken for_serve serve_options p serve_doors
+    (serve_each (IsOption for_serve.top.rules) serve_has_controller serve_has_workers serve_has_conns serve_has_admin) plain refl)
+
+serve_values : (p : Plain) → is_plain serve_options p ≡ true → serve_in (rows_in p) ≡ plain_serve p
+serve_values p plain =
+    ap₂ (λ controller workers. serve_by controller workers (first_of (codes "conns") (rows_in p)) (first_of (codes "admin") (rows_in p)) (doors_in (rows_in p)))
+    (value_in_rows (codes "controller") p.options p.doors refl) (value_in_rows (codes "workers") p.options p.doors refl)
+    ∙ ap₂ (λ conns admin. serve_by (value_given (codes "controller") p.options) (value_given (codes "workers") p.options) conns admin (doors_in (rows_in p)))
+    (value_in_rows (codes "conns") p.options p.doors refl) (value_in_rows (codes "admin") p.options p.doors refl)
+    ∙ ap (serve_by (value_given (codes "controller") p.options) (value_given (codes "workers") p.options) (value_given (codes "conns") p.options) (value_given (codes "admin") p.options))
+    (others_of serve_options p (serve_each no_door refl refl refl refl) plain)
+
+serve_read : (p : Plain) → is_plain serve_options p ≡ true → serve_of (codes "serve" ∷ plain_words p) ≡ plain_serve p
+unfolding serve_of
+serve_read p plain = ap (λ found. found >>= serve_in) (serve_found p plain) ∙ serve_values p plain
+
 pub plain_is_read : (words : List Text) → ReadsPlain words
 plain_is_read words = record {
   status = λ p plain are. ap command_of are ∙ ap (option_map status) (status_read p plain);
   explain = λ p plain are. ap command_of are ∙ ap (option_map explain) (explain_read p plain);
   replay = λ p plain are. ap command_of are ∙ ap (option_map replay) (replay_read p plain);
+  serve = λ p plain are. ap command_of are ∙ ap (option_map serve) (serve_read p plain);
 }

@@ -1,7 +1,7 @@
 -- The faults by which the program ends: with which exit code, and which cause it writes.
 use Rattle.std.specs.Prelude.{◌≡◌, ℕ, ◌⊎◌, List, [], ◌++◌, codes, Option, Some, None}
 use Rattle.gw_command.specs.declared.fault.Fault.{Fault}
-use Rattle.gw_command.specs.declared.fault.Fault.TheVariants.{Usage, ReadFailed, WriteFailed, TooManyDoors, TwoAddresses, DoorTwice, NoMemory, TooLong}
+use Rattle.gw_command.specs.declared.fault.Fault.TheVariants.{Usage, ReadFailed, WriteFailed, TooManyDoors, TwoAddresses, DoorTwice, NotBound, NotStarted, NoPlace, NoMemory, TooLong}
 
 -- An exit code, and the cause that is written, if one is.
 pub record Ending : Type 0 where
@@ -24,6 +24,9 @@ ending_of WriteFailed = unwritten 4
 ending_of TooManyDoors = written 5 (codes "TooManyDoors")
 ending_of TwoAddresses = written 5 (codes "TwoAddresses")
 ending_of DoorTwice = written 5 (codes "DoorTwice")
+ending_of NotBound = written 5 (codes "bind")
+ending_of NotStarted = written 5 (codes "start")
+ending_of NoPlace = written 5 (codes "Place")
 ending_of NoMemory = unwritten 6
 ending_of TooLong = written 7 (codes "size")
 

@@ -1,7 +1,6 @@
 pub mod Faults
 pub mod Plain
 pub mod Readings
-pub mod Requests
 pub mod SeenTasks
 pub mod Starts
 pub mod Words

@@ -2,7 +2,7 @@
 use Rattle.std.specs.Prelude.{◌≡◌, ℕ, List, [], ◌∷◌, ◌++◌, Bool, true, false, not, ◌&&◌, ◌==◌, codes, bytes_eq, if◌then◌else◌, Option, Some, option_map, find, flat_map, filter}
 use Rattle.std.specs.List.{list_all, list_any}
 use Rattle.gw_text.specs.model.Chains.{◌>>=◌}
-use Rattle.gw_command.specs.Words.{StatusWords, ExplainWords, ReplayWords, status, explain, replay, controller_by, doors_of, explain_by, replay_by, command_of}
+use Rattle.gw_command.specs.Words.{StatusWords, ExplainWords, ReplayWords, ServeWords, status, explain, replay, serve, controller_by, doors_of, explain_by, replay_by, serve_by, command_of}
 
 -- An option as it is given: in one word, `--name=value`, or in two, `--name value`.
 pub record Given : Type 0 where
@@ -76,8 +76,18 @@ replay_options = codes "controller" ∷ codes "workers" ∷ []
 abbrev pub plain_replay : Plain → Option ReplayWords
 plain_replay p = replay_by (value_given (codes "controller") p.options) (value_given (codes "workers") p.options) p.doors
 
+-- The options of `serve`.
+abbrev pub serve_options : List (List ℕ)
+serve_options = codes "controller" ∷ codes "workers" ∷ codes "conns" ∷ codes "admin" ∷ []
+
+-- What plain words give `serve`.
+abbrev pub plain_serve : Plain → Option ServeWords
+plain_serve p =
+    serve_by (value_given (codes "controller") p.options) (value_given (codes "workers") p.options) (value_given (codes "conns") p.options)
+    (value_given (codes "admin") p.options) p.doors
+
 -- Plain words are read as they stand: an option's value is the one after its name, and what follows the options are
--- DOORs. So only a value can make them wrong, or that a request is wanting.
+-- DOORs. So only a value can make them wrong, or that a request or an admin socket is wanting.
 pub record ReadsPlain (words : List (List ℕ)) : Type 0 where
   pub status : (p : Plain) → is_plain status_options p ≡ true → words ≡ codes "status" ∷ plain_words p
       → command_of words ≡ option_map status (plain_status p)
@@ -85,3 +95,5 @@ pub record ReadsPlain (words : List (List ℕ)) : Type 0 where
       → command_of words ≡ option_map explain (plain_explain p)
   pub replay : (p : Plain) → is_plain replay_options p ≡ true → words ≡ codes "replay" ∷ plain_words p
       → command_of words ≡ option_map replay (plain_replay p)
+  pub serve : (p : Plain) → is_plain serve_options p ≡ true → words ≡ codes "serve" ∷ plain_words p
+      → command_of words ≡ option_map serve (plain_serve p)

@@ -1,7 +1,8 @@
 -- The commands and their words. Clap's own definitions say what it makes of the words of a command.
-use Rattle.std.specs.Prelude.{ℕ, ◌+◌, List, [], ◌∷◌, ◌++◌, length, codes, bytes_eq, if◌then◌else◌, ◌==◌, Option, None, Some, option_map, unwrap_or}
+use Rattle.std.specs.Prelude.{ℕ, ◌+◌, ◌*◌, Bool, nat_lt, not, List, [], ◌∷◌, ◌++◌, length, codes, bytes_eq, if◌then◌else◌, ◌==◌, Option, None, Some, option_map, unwrap_or}
 use Rattle.gw_text.specs.model.Chains.{◌>>=◌}
-use Rattle.gw_text.specs.model.Doors.{Door, door_of}
+use Rattle.gw_text.specs.model.Addresses.{Socket}
+use Rattle.gw_text.specs.model.Doors.{Door, door_of, loopback_of}
 use Rattle.clap.specs.Words.{Rule, Row, App, new_rule, new_app, with_rule, matches_of, fault_of, first_of, all_of}
 use Rattle.clap.specs.declared.builder.action.ArgAction.TheVariants.{Set, Append}
 use Rattle.gw_word.specs.Numbers.{number_below}
@@ -25,11 +26,21 @@ pub record ReplayWords : Type 0 where
   pub workers : ℕ
   pub doors : List Door
 
+-- What `serve` is given: how many workers each door has, after how many accepts a job ends, where it does, and the socket of the admin
+-- endpoint.
+pub record ServeWords : Type 0 where
+  pub controller : List ℕ
+  pub workers : ℕ
+  pub conns : Option ℕ
+  pub admin : Socket
+  pub doors : List Door
+
 -- A command with what it is given.
 pub data Command : Type 0 where
   status : StatusWords → Command
   explain : ExplainWords → Command
   replay : ReplayWords → Command
+  serve : ServeWords → Command
 
 -- The controller whose GatewayClasses are this program's, where the words name no other.
 abbrev pub default_controller : List ℕ
@@ -58,6 +69,16 @@ abbrev pub replay_app : App
 replay_app =
     with_rule (with_rule (with_rule (new_app (codes "replay")) (value_rule (codes "controller")))
     (value_rule (codes "workers"))) door_rule
+
+-- The options of `serve`: [--controller TEXT] [--workers N] [--conns N] --admin SOCKET
+abbrev pub serve_options_app : App
+serve_options_app =
+    with_rule (with_rule (with_rule (with_rule (new_app (codes "serve")) (value_rule (codes "controller")))
+    (value_rule (codes "workers"))) (value_rule (codes "conns"))) (value_rule (codes "admin"))
+
+-- The words of `serve`: its options, and [DOOR]...
+abbrev pub serve_app : App
+serve_app = with_rule serve_options_app door_rule
 
 -- What clap finds in the words of a command, the command's name first, where it refuses none of them.
 unfoldable pub found_in : App → List (List ℕ) → Option (List Row)
@@ -122,7 +143,7 @@ explain_of words = do
   rows ← found_in explain_app words
   explain_in rows
 
--- The most workers of a replay.
+-- The most workers of a replay, and of all doors together that are served.
 abbrev pub most_workers : ℕ
 most_workers = 64
 
@@ -147,6 +168,43 @@ replay_of words = do
   rows ← found_in replay_app words
   replay_in rows
 
+-- The most accepts after which a job ends.
+abbrev pub most_conns : ℕ
+most_conns = 1000000
+
+-- After how many accepts a job ends: the number that is given, of one at least, or none.
+abbrev pub conns_by : Option (List ℕ) → Option (Option ℕ)
+conns_by None = Some None
+conns_by (Some given) = number_below (most_conns + 1) given >>= λ n. if n == 0 then None else Some (Some n)
+
+-- The socket of the admin endpoint that is given; one must be, of the host itself.
+abbrev pub admin_by : Option (List ℕ) → Option Socket
+admin_by given = given >>= loopback_of
+
+-- So many doors may have so many workers each.
+abbrev pub are_few : ℕ → ℕ → Bool
+are_few workers doors = not (nat_lt most_workers (workers * doors))
+
+-- What `serve` is given by the values of its options and the words of its DOORs.
+unfoldable pub serve_by : Option (List ℕ) → Option (List ℕ) → Option (List ℕ) → Option (List ℕ) → List (List ℕ) → Option ServeWords
+serve_by controller workers conns admin doors = do
+  workers ← workers_by workers
+  conns ← conns_by conns
+  admin ← admin_by admin
+  doors ← doors_of doors
+  if are_few workers (length doors) then Some (record { controller = controller_by controller; workers = workers; conns = conns; admin = admin; doors = doors }) else None
+
+-- What `serve` is given by what clap found.
+abbrev pub serve_in : List Row → Option ServeWords
+serve_in rows =
+    serve_by (first_of (codes "controller") rows) (first_of (codes "workers") rows) (first_of (codes "conns") rows) (first_of (codes "admin") rows) (doors_in rows)
+
+-- What `serve` is given by its words.
+unfoldable pub serve_of : List (List ℕ) → Option ServeWords
+serve_of words = do
+  rows ← found_in serve_app words
+  serve_in rows
+
 -- The command of the words that follow the program's name, of which the first names it. There is none where the
 -- words aren't right.
 abbrev pub command_of : List (List ℕ) → Option Command
@@ -154,4 +212,5 @@ command_of [] = None
 command_of (word ∷ words) =
     if bytes_eq word (codes "status") then option_map status (status_of (word ∷ words))
     else (if bytes_eq word (codes "explain") then option_map explain (explain_of (word ∷ words))
-    else (if bytes_eq word (codes "replay") then option_map replay (replay_of (word ∷ words)) else None))
+    else (if bytes_eq word (codes "replay") then option_map replay (replay_of (word ∷ words))
+    else (if bytes_eq word (codes "serve") then option_map serve (serve_of (word ∷ words)) else None)))

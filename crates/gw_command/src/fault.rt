@@ -16,6 +16,12 @@ pub enum Fault {
     TwoAddresses,
     /// Two doors have one Gateway and listener port, or one socket.
     DoorTwice,
+    /// A socket couldn't be bound, or an upstream not be had.
+    NotBound,
+    /// A job couldn't be started.
+    NotStarted,
+    /// There was no place for those who read.
+    NoPlace,
     /// Memory ran out.
     NoMemory,
     /// The input is too long.
@@ -42,6 +48,9 @@ impl Fault {
             Fault::TooManyDoors => (5, b"{\"fault\":\"TooManyDoors\"}\n"),
             Fault::TwoAddresses => (5, b"{\"fault\":\"TwoAddresses\"}\n"),
             Fault::DoorTwice => (5, b"{\"fault\":\"DoorTwice\"}\n"),
+            Fault::NotBound => (5, b"{\"fault\":\"bind\"}\n"),
+            Fault::NotStarted => (5, b"{\"fault\":\"start\"}\n"),
+            Fault::NoPlace => (5, b"{\"fault\":\"Place\"}\n"),
             Fault::NoMemory => (6, b""),
             Fault::TooLong => (7, b"{\"fault\":\"size\"}\n"),
         };

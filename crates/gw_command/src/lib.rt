@@ -2,7 +2,6 @@
 #![tactic(auto)]
 
 mod fault;
-mod request;
 mod setting;
 mod task;
 mod words;
@@ -11,5 +10,6 @@ pub use fault::{Ending, Fault};
 pub use setting::{Setting, start};
 pub use task::Task;
 pub use words::{
-    Command, DEFAULT_CONTROLLER, ExplainWords, ReplayWords, StatusWords, UsageFault, read_words,
+    Command, DEFAULT_CONTROLLER, ExplainWords, ReplayWords, ServeWords, StatusWords, UsageFault,
+    read_words,
 };

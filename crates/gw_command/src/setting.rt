@@ -1,15 +1,15 @@
-ghost use Rattle.std.specs.Prelude.{◌≡◌, ◌<◌, ◌⊎◌, Some, length, map, string_bytes, IfOk, IfErr};
+ghost use Rattle.std.specs.Prelude.{◌≡◌, ◌<◌, ◌⊎◌, Some, None, length, map, string_bytes, IfOk, IfErr, IfSome};
 ghost use Rattle.gw_text.specs.model.Doors.{door_fault};
 ghost use Rattle.gw_command.specs.Faults.{IsExitAtStart, exit_code};
 ghost use Rattle.gw_command.specs.SeenTasks.{seen_task};
-ghost use Rattle.gw_command.specs.Starts.{IsSetting, IsStart, IsStartBy, IsWithin, with_rule};
+ghost use Rattle.gw_command.specs.Starts.{IsService, a_service, IsSetting, IsStart, IsStartBy, IsWithin, with_rule};
 ghost use Rattle.gw_command.specs.Words as commands;
 
 use crate::fault::Fault;
-use crate::request::whole_request;
 use crate::task::Task;
 use crate::words::{Command, ExplainWords, StatusWords, UsageFault, read_words};
-use gw_text::{Door, DoorFault, Doors, Text};
+use gw_requests::whole_request;
+use gw_text::{Door, DoorFault, Doors, Socket, Text};
 use std::alloc::Global;
 use std::marker::Model;
 
@@ -31,6 +31,19 @@ impl Model for Setting {
     ghost view = { λ s. record { controller = s.controller; doors = s.doors; task = seen_task s.task } };
 }
 
+impl Setting {
+    /// Where it is set to serve: how many workers each door has, after how many accepts a job ends, and the socket of the admin endpoint.
+    pub fn service(&self) -> Option<(usize, Option<u32>, Socket)>
+        ensures some { IfSome result (λ s. self.now.task ≡ a_service s.0 s.1 s.2) }
+        ensures none { result ≡ None → IsService self.now.task → ⊥ }
+    {
+        match &self.task {
+            Task::Serve(workers, conns, admin) => Some((*workers, *conns, *admin)),
+            _ => None,
+        }
+    }
+}
+
 /// The setting of the words that follow the program's name.
 #[tactic(auto, unfolding(crate::specs::Starts::Starts))]
 pub fn start(alloc: Global, words: &[String]) -> Result<Setting, Fault>
@@ -45,6 +58,10 @@ pub fn start(alloc: Global, words: &[String]) -> Result<Setting, Fault>
         Ok(Command::Explain(words)) => explanation(alloc, words),
         Ok(Command::Replay(words)) => {
             let task = Task::Replay(words.workers);
+            with_doors(alloc, words.controller, words.doors, task)
+        }
+        Ok(Command::Serve(words)) => {
+            let task = Task::Serve(words.workers, words.conns, words.admin);
             with_doors(alloc, words.controller, words.doors, task)
         }
         Err(UsageFault::Usage) => Err(Fault::Usage),

@@ -1,6 +1,7 @@
 use gw_frames::Request;
+use gw_text::Socket;
 
-/// What the program writes of the objects that the lines of its input put.
+/// What the program does: it writes of the objects that the lines of its input put, or serves.
 #[derive(Drop)]
 pub enum Task {
     /// Their statuses.
@@ -9,4 +10,7 @@ pub enum Task {
     Explanation(usize, Request),
     /// What a script's connections are served, by so many workers.
     Replay(usize),
+    /// The connections of all doors are served, by so many workers each, with jobs that end after so many accepts, or never; the objects
+    /// come to the admin endpoint at this socket.
+    Serve(usize, Option<u32>, Socket),
 }

@@ -1,14 +1,14 @@
-ghost use Rattle.std.specs.Prelude.{◌≡◌, ◌<◌, ◌≤◌, true, false, codes, length, IfOk, map, option_map, string_bytes};
+ghost use Rattle.std.specs.Prelude.{◌≡◌, ◌*◌, ◌<◌, ◌≤◌, true, false, codes, length, IfOk, map, option_map, string_bytes};
 ghost use Rattle.clap.specs.Words.{app_of, rule_of, all_of, first_of, found_of, is_simple, rows_of};
 ghost use Rattle.clap.specs.Faults.{is_simple_and_free};
 ghost use Rattle.gw_command.specs.Readings.{IsWithin, Reads, seen};
-ghost use Rattle.gw_text.specs.model.Doors.{door_of};
+ghost use Rattle.gw_text.specs.model.Doors.{door_of, loopback_of};
 ghost use Rattle.gw_command.specs.Plain.{ReadsPlain};
 ghost use Rattle.gw_command.specs.Words as words_of;
 
 use clap::error::ErrorKind;
 use clap::{Arg, ArgAction, ArgMatches};
-use gw_text::{Door, Text, TextFault};
+use gw_text::{Door, Socket, Text, TextFault};
 use gw_word::{number_below, quoted_bytes};
 use std::alloc::{AllocError, AllocFailed, Global};
 use std::marker::Model;
@@ -16,8 +16,11 @@ use std::marker::Model;
 /// The controller whose GatewayClasses are this program's, where the words name no other.
 pub const DEFAULT_CONTROLLER: &str = "gateward.example/controller";
 
-// The most workers of a replay.
+// The most workers of a replay, and of all doors together that are served.
 const MOST_WORKERS: usize = 64;
+
+// The most accepts after which a job ends.
+const MOST_CONNS: usize = 1_000_000;
 
 /// Why words are not read.
 #[derive(Clone, Copy, Debug, PartialEq, Eq, Drop)]
@@ -105,6 +108,29 @@ impl Model for ReplayWords {
     ghost view = { λ s. record { controller = s.controller; workers = s.workers; doors = s.doors.items } };
 }
 
+/// What `serve` is given: `[--controller TEXT] [--workers N] [--conns N] --admin SOCKET [DOOR]...`.
+#[derive(Drop)]
+pub struct ServeWords {
+    /// The controller of the GatewayClasses that are this program's.
+    pub controller: Text,
+    /// How many workers each door has.
+    pub workers: usize,
+    /// After how many accepts a job ends. None: it doesn't end.
+    pub conns: Option<u32>,
+    /// The loopback socket of the admin endpoint.
+    pub admin: Socket,
+    /// The DOORs, in the order in which they are given.
+    pub doors: Vec<Door>,
+}
+
+impl Model for ServeWords {
+    ghost use Rattle.gw_command.specs.Words.{ServeWords as Plain};
+
+    ghost Value = { Plain };
+
+    ghost view = { λ s. record { controller = s.controller; workers = s.workers; conns = s.conns; admin = s.admin; doors = s.doors.items } };
+}
+
 /// A command with what it is given.
 #[derive(Drop)]
 pub enum Command {
@@ -114,6 +140,8 @@ pub enum Command {
     Explain(ExplainWords),
     /// Prints what the connections of a script are served, by the objects that its events put.
     Replay(ReplayWords),
+    /// Serves the connections of doors, by the objects that the admin endpoint is given.
+    Serve(ServeWords),
 }
 
 /// The command of the words that follow the program's name. Help and the version are usage faults too.
@@ -129,6 +157,7 @@ pub fn read_words(alloc: Global, words: &[String]) -> Result<Command, UsageFault
             alloc, words,
         )?)),
         [name, ..] if name.as_str() == "replay" => Ok(Command::Replay(read_replay(alloc, words)?)),
+        [name, ..] if name.as_str() == "serve" => Ok(Command::Serve(read_serve(alloc, words)?)),
         _ => Err(UsageFault::Usage),
     }
 }
@@ -160,6 +189,16 @@ fn read_replay(alloc: Global, words: &[String]) -> Result<ReplayWords, UsageFaul
     replay_words(alloc, &matches)
 }
 
+#[tactic(auto, unfolding(crate::specs::Words::serve_of))]
+fn read_serve(alloc: Global, words: &[String]) -> Result<ServeWords, UsageFault>
+    ensures value { Reads (λ s. s) (words_of.serve_of (map string_bytes words.now)) result }
+    ensures some { IfOk result (λ s. 0 < s.workers) }
+    ensures few { IfOk result (λ s. s.workers * length s.doors ≤ words_of.most_workers) }
+{
+    let matches = matches_for(serve_command(alloc)?, words)?;
+    serve_words(alloc, &matches)
+}
+
 fn status_command<'a>(alloc: Global) -> Result<clap::Command<'a>, AllocError>
     ensures { IfOk result (λ c. app_of c ≡ words_of.status_app) }
 {
@@ -186,6 +225,24 @@ fn replay_command<'a>(alloc: Global) -> Result<clap::Command<'a>, AllocError>
         .arg(value(alloc, "controller"))?
         .arg(value(alloc, "workers"))?
         .arg(door(alloc))
+}
+
+fn serve_command<'a>(alloc: Global) -> Result<clap::Command<'a>, AllocError>
+    ensures { IfOk result (λ c. app_of c ≡ words_of.serve_app) }
+{
+    let command = serve_options(alloc)?;
+    command.arg(door(alloc))
+}
+
+// The command without its DOORs.
+fn serve_options<'a>(alloc: Global) -> Result<clap::Command<'a>, AllocError>
+    ensures { IfOk result (λ c. app_of c ≡ words_of.serve_options_app) }
+{
+    clap::Command::new(alloc, "serve")
+        .arg(value(alloc, "controller"))?
+        .arg(value(alloc, "workers"))?
+        .arg(value(alloc, "conns"))?
+        .arg(value(alloc, "admin"))
 }
 
 fn value<'a>(alloc: Global, name: &'a str) -> Arg<'a>
@@ -263,6 +320,39 @@ fn replay_words(alloc: Global, matches: &ArgMatches<'_>) -> Result<ReplayWords, 
     })
 }
 
+#[tactic(auto, unfolding(crate::specs::Words::serve_by))]
+fn serve_words(alloc: Global, matches: &ArgMatches<'_>) -> Result<ServeWords, UsageFault>
+    ensures value { Reads (λ s. s) (words_of.serve_in (rows_of (found_of matches.now))) result }
+    ensures some { IfOk result (λ s. 0 < s.workers) }
+    ensures few { IfOk result (λ s. s.workers * length s.doors ≤ words_of.most_workers) }
+{
+    let workers = workers(matches)?;
+    let conns = conns(matches)?;
+    let admin = admin(alloc, matches)?;
+    let doors = doors(alloc, matches)?;
+    if !are_few(workers, doors.len()) {
+        return Err(UsageFault::Usage);
+    }
+    let controller = controller(alloc, matches)?;
+    Ok(ServeWords {
+        controller,
+        workers,
+        conns,
+        admin,
+        doors,
+    })
+}
+
+// Whether so many doors may have so many workers each.
+fn are_few(workers: usize, doors: usize) -> bool
+    ensures { result ≡ words_of.are_few workers doors }
+{
+    match workers.checked_mul(doors) {
+        Some(all) => all <= MOST_WORKERS,
+        None => false,
+    }
+}
+
 fn request(alloc: Global, matches: &ArgMatches<'_>) -> Result<Vec<u8>, UsageFault>
     ensures { Reads (λ v. v.items) (words_of.request_by (first_of (codes "request") (rows_of (found_of matches.now)))) result }
 {
@@ -288,6 +378,38 @@ fn workers(matches: &ArgMatches<'_>) -> Result<usize, UsageFault>
     let text = value_of(matches, "workers").unwrap_or("1");
     match number_below(MOST_WORKERS + 1, text) {
         Some(number) if number > 0 => Ok(number),
+        _ => Err(UsageFault::Usage),
+    }
+}
+
+fn conns(matches: &ArgMatches<'_>) -> Result<Option<u32>, UsageFault>
+    ensures { Reads (λ n. n) (words_of.conns_by (first_of (codes "conns") (rows_of (found_of matches.now)))) result }
+{
+    let Some(text) = value_of(matches, "conns") else {
+        return Ok(None);
+    };
+    match number_below(MOST_CONNS + 1, text) {
+        Some(number) if number > 0 => Ok(Some(number as u32)),
+        _ => Err(UsageFault::Usage),
+    }
+}
+
+fn admin(alloc: Global, matches: &ArgMatches<'_>) -> Result<Socket, UsageFault>
+    ensures { Reads (λ socket. socket) (words_of.admin_by (first_of (codes "admin") (rows_of (found_of matches.now)))) result }
+{
+    match value_of(matches, "admin") {
+        Some(word) => read_loopback(alloc, word),
+        None => Err(UsageFault::Usage),
+    }
+}
+
+#[tactic(auto, unfolding(gw_text::specs::model::Doors::loopback_of))]
+fn read_loopback(alloc: Global, word: &str) -> Result<Socket, UsageFault>
+    ensures { Reads (λ socket. socket) (loopback_of word.now) result }
+{
+    match Socket::parse(alloc, word) {
+        Ok(socket) if socket.a == 127 => Ok(socket),
+        Err(TextFault::NoMemory) => Err(UsageFault::NoMemory),
         _ => Err(UsageFault::Usage),
     }
 }

@@ -4,7 +4,6 @@ use Rattle.std.proofs.lemmas.Bool.Decides.{nat_tests}
 use Rattle.std.proofs.lemmas.List.{length-map, map-append}
 use Rattle.std.proofs.lemmas.List.Sums.{fold-append}
 use Rattle.gw_match.specs.model.Telling.{Stands, Tables, change_of, tables_of, world_after}
-use Rattle.gw_hub.specs.Control.{Control, Follows}
 use Rattle.gw_store.specs.declared.event.Entry.{Entry}
 use Rattle.gw_text.specs.model.Doors.{Door}
 use Rattle.gw_text.specs.model.Objects.{Change, Event}
@@ -23,9 +22,6 @@ counted_from w (c ∷ cs) = omega (arith, counted_from (apply w c) cs)
 pub counted : (changes : List Entry) → (world_after changes).changes ≡ length changes
 counted changes = omega (arith, counted_from nothing (map change_of changes), length-map changes change_of)
 
-pub counted_by : (c : Control) → Follows c → c.world.changes ≡ length c.changes
-counted_by c follows = ap (λ (w : World). w.changes) follows ∙ counted c.changes
-
 -- there is room for a number more
 pub room_left : (w : World) (event : Event) → is_full w event ≡ false → w.changes + 1 < 2 ^ 64
 unfolding is_full
@@ -42,7 +38,3 @@ tables_stand doors controller w t changes after is = subst (λ (t : Tables). Sta
   number = ap (λ (w : World). w.changes) after ∙ counted changes;
   tables = ap (tables_of doors controller) after;
 })
-
--- a door, which one doesn't matter
-pub some_door : Door
-some_door = record { gateway = record { namespace = []; name = [] }; port = 0; at = record { a = 0; b = 0; c = 0; d = 0; port = 0 } }

@@ -1,2 +1,2 @@
 pub mod Control
-pub mod Twice
+pub mod Turns

@@ -3,6 +3,7 @@ ghost use Rattle.std.specs.Arc.{arc_value};
 
 use crate::table::DoorTable;
 use gw_snap::Told;
+use gw_snapshots::Told as Shared;
 use gw_store::Entry;
 use gw_text::{Doors, Text};
 use std::marker::Model;
@@ -44,6 +45,21 @@ impl Told for Tables {
     ghost tells = { λ t list. Stands t list };
 
     ghost fixed = { λ t. (t.doors, t.controller) };
+}
+
+impl Shared for Tables {
+    ghost use Rattle.std.specs.Prelude.{[]};
+    ghost use Rattle.gw_match.specs.model.Telling.{Stands};
+
+    type Change = Entry;
+
+    type Fixed = (Doors, Text);
+
+    ghost tells = { λ t list. Stands t list };
+
+    ghost fixed = { λ t. (t.doors, t.controller) };
+
+    ghost blank = { ([], []) };
 }
 
 impl Tables {

@@ -1,6 +1,7 @@
 pub mod Answering
 pub mod Counting
 pub mod Endpoints
+pub mod Finishing
 pub mod Floats
 pub mod Keeping
 pub mod Pairing
@@ -8,3 +9,4 @@ pub mod Running
 pub mod Sending
 pub mod Serving
 pub mod Stepping
+pub mod Stopping

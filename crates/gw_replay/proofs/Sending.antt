@@ -17,7 +17,7 @@ use Rattle.gw_replay.proofs.Stepping.{serves_among, some_matched, taken_away}
 abbrev pub Without : State → List ℕ → State
 Without s name = record s { clients = update bytes_eq s.clients name None }
 
-module _ (old r1 r2 : Replay) (number : ℕ) (name piece : List ℕ) (c c' : Client) (flow : Flow)
+module _ {R : Type 0} (old r1 r2 : Replay R) (number : ℕ) (name piece : List ℕ) (c c' : Client) (flow : Flow)
     (taken : r1 ≡ record old { clients = r1.clients }) (gone : (n : List ℕ) → get_by_text r1.clients n ≡ update bytes_eq (get_by_text old.clients) name None n)
     (was : get_by_text old.clients name ≡ Some c) (served : ServedBy number name piece c c' flow r1 r2) where
   same_site : site_of r1 ≡ site_of old
@@ -55,10 +55,10 @@ module _ (old r1 r2 : Replay) (number : ℕ) (name piece : List ℕ) (c c' : Cli
     clients_are = ap (λ (x : State). x.clients) from.serves.state
 
     printed_so : string_bytes r2.text ≡ string_bytes old.text ++ from.text
-    printed_so = from.printed ∙ ap (λ (r : Replay). string_bytes r.text ++ from.text) taken
+    printed_so = from.printed ∙ ap (λ (r : Replay R). string_bytes r.text ++ from.text) taken
 
 -- a connection that ended
-pub sent_ended : (old r1 r2 : Replay) (number : ℕ) (name piece : List ℕ) (c c' : Client) (why : Ended) → r1 ≡ record old { clients = r1.clients }
+pub sent_ended : {R : Type 0} (old r1 r2 : Replay R) (number : ℕ) (name piece : List ℕ) (c c' : Client) (why : Ended) → r1 ≡ record old { clients = r1.clients }
     → ((n : List ℕ) → get_by_text r1.clients n ≡ update bytes_eq (get_by_text old.clients) name None n) → get_by_text old.clients name ≡ Some c
     → ServedBy number name piece c c' (flows.Ended why) r1 r2 → Does (λ s s' text. Sends (site_of old) number name piece (s.clients name) s s' text) old r2
 sent_ended old r1 r2 number name piece c c' why taken gone was served = record {
@@ -75,12 +75,12 @@ sent_ended old r1 r2 number name piece c c' why taken gone was served = record {
 }
 
 -- a connection that is kept
-pub sent_more : (old r1 r2 r3 : Replay) (number : ℕ) (name piece : List ℕ) (c c' : Client) → r1 ≡ record old { clients = r1.clients }
+pub sent_more : {R : Type 0} (old r1 r2 r3 : Replay R) (number : ℕ) (name piece : List ℕ) (c c' : Client) → r1 ≡ record old { clients = r1.clients }
     → ((n : List ℕ) → get_by_text r1.clients n ≡ update bytes_eq (get_by_text old.clients) name None n) → get_by_text old.clients name ≡ Some c
     → ServedBy number name piece c c' flows.More r1 r2 → r3 ≡ record r2 { clients = r3.clients }
     → ((n : List ℕ) → get_by_text r3.clients n ≡ update bytes_eq (get_by_text r2.clients) name (Some c') n)
     → Does (λ s s' text. Sends (site_of old) number name piece (s.clients name) s s' text) old r3
-sent_more old r1 r2 r3 number name piece c c' taken gone was served rest kept = record {
+sent_more {R} old r1 r2 r3 number name piece c c' taken gone was served rest kept = record {
   site = ap site_of rest ∙ served.site ∙ ap site_of taken;
   did = λ s k.
       let f = from old r1 r2 number name piece c c' flows.More taken gone was served s k in
@@ -97,6 +97,6 @@ sent_more old r1 r2 r3 number name piece c c' taken gone was served rest kept = 
             (ap (λ (h : List ℕ → Option Plain). update bytes_eq h name (Some f.plain') n) (clients_are old r1 r2 number name piece c c' flows.More taken gone was served s k)
             ∙ put_twice name s.clients None (Some f.plain') n)
             (matches_put (site_of r2) (length f.state.workers) name (get_by_text r2.clients) f.state.clients (Some c') (Some f.plain') f.keeps.clients client n)));
-        printed = ap (λ (r : Replay). string_bytes r.text) rest ∙ printed_so old r1 r2 number name piece c c' flows.More taken gone was served s k;
+        printed = ap (λ (r : Replay R). string_bytes r.text) rest ∙ printed_so old r1 r2 number name piece c c' flows.More taken gone was served s k;
       };
 }

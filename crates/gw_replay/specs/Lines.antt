@@ -143,3 +143,14 @@ totals_data changes front refused statuses skipped =
     (member (codes "requests") (number (unsigned (length statuses)))
     (member (codes "skipped") (number (unsigned skipped))
     (member (codes "statuses") (statuses_data statuses) no_members))))))
+
+-- The last line where there was no place to read from.
+abbrev pub place_data : Data
+place_data = object (member (codes "fault") (string (codes "Place")) no_members)
+
+-- The last line where a worker had seen so many changes, which are more than are published.
+abbrev pub ahead_data : ℕ → ℕ → Data
+ahead_data front seen =
+    object (member (codes "fault") (string (codes "Ahead"))
+    (member (codes "front") (number (unsigned front))
+    (member (codes "seen") (number (unsigned seen)) no_members)))

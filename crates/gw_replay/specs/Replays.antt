@@ -1,6 +1,7 @@
 -- What comes of a script: each line does its step on what stands after the lines before it.
 use Rattle.std.specs.Prelude.{◌≡◌, ℕ, ℤ, ◌+◌, ◌==◌, List, [], ◌∷◌, ◌++◌, length, map, replicate, set, slice_get, bytes_eq, Bool, true, false, Option, Some, None, Result, Ok, Err, ⊤}
 use Rattle.std.specs.Map.{update}
+use Rattle.gw_answers.specs.declared.books.Books.{Books}
 use Rattle.gw_answers.specs.model.Decisions.{Action, forwards, replies}
 use Rattle.gw_answers.specs.model.Messages.{is_head}
 use Rattle.gw_frames.specs.declared.ended.Ended.{Ended}
@@ -15,9 +16,8 @@ use Rattle.gw_link.specs.declared.order.UpstreamCall.TheVariants as calls
 use Rattle.gw_match.specs.model.Telling.{change_of, world_after}
 use Rattle.gw_replies.specs.declared.fault.BackendFault.TheVariants.{Open, Send, Receive}
 use Rattle.gw_replies.specs.model.Responses.{Outcome, ResponseOf, a_fault, a_response}
-use Rattle.gw_report.specs.Lines.{is_blank}
+use Rattle.gw_store.specs.Lines.{is_blank}
 use Rattle.gw_report.specs.RunText.{refused_object}
-use Rattle.gw_snap.specs.Lists.{copies}
 use Rattle.gw_script.specs.Refusals.{step_refusal_number, step_refusal_path}
 use Rattle.gw_script.specs.Scripts.{step_of}
 use Rattle.gw_script.specs.Steps.{Step, an_event, a_publication, a_beginning, a_sending, an_end, an_answer, a_failure}
@@ -28,9 +28,7 @@ use Rattle.gw_store.specs.declared.event.Entry.{Entry}
 use Rattle.gw_text.specs.model.Addresses.{Socket}
 use Rattle.gw_text.specs.model.Doors.{Door}
 use Rattle.gw_worker.specs.Conns.{IsAllOf}
-use Rattle.gw_worker.specs.Workers.{Decided}
-use Rattle.gw_worker.specs.declared.worker.Worker.{Worker}
-use Rattle.gw_worker.specs.model.Sessions.{Answer, Part, Place, a_close, a_cut, a_refused, a_request, a_wait, decision_at, rows_of, written, step_of as bytes_step}
+use Rattle.gw_worker.specs.model.Sessions.{Answer, Part, Place, a_close, a_cut, a_refused, a_request, a_wait, books_at, decision_at, rows_of, written, step_of as bytes_step}
 use Rattle.gw_replay.specs.Lines.{front_data, rows_text, written_text, end_text, totals_data}
 
 -- An open connection: its worker and its door, by their numbers; the bytes that came; what came of them; and what was written.
@@ -46,7 +44,8 @@ pub record State : Type 0 where
   -- the changes that were taken, and those of them that are published
   pub changes : List Entry
   pub published : List Entry
-  pub workers : List Worker
+  -- the picks of each worker so far
+  pub workers : List Books
   -- the open connection of each name
   pub clients : List ℕ → Option Client
   -- what the backends do, in the order in which that was said
@@ -64,16 +63,16 @@ pub record Site : Type 0 where
 abbrev pub place_at : Site → ℕ → Place
 place_at site door = record { doors = site.doors; controller = site.controller; door = door }
 
--- A worker that has seen nothing and picked nothing.
-abbrev pub new_worker : Site → Worker
-new_worker site = record { pass = record { seen = []; fixed = (site.doors, site.controller) }; books = record { backends = []; endpoints = [] } }
+-- A worker that picked nothing.
+abbrev pub no_picks : Books
+no_picks = record { backends = []; endpoints = [] }
 
 -- Before the first line, with so many workers.
-abbrev pub beginning : Site → ℕ → State
-beginning site workers = record {
+abbrev pub beginning : ℕ → State
+beginning workers = record {
   changes = [];
   published = [];
-  workers = copies workers (new_worker site);
+  workers = replicate workers no_picks;
   clients = λ name. None;
   orders = [];
   statuses = [];
@@ -98,13 +97,9 @@ EventDone line at (Ok (a_change event)) s s' text =
 EventDone line at (Ok is_skipped) s s' text = (s' ≡ record s { skipped = s.skipped + 1 }) × (text ≡ [])
 EventDone line at (Err e) s s' text = IsRefused line (refusal_number e) (refusal_path e) s s' text
 
--- A worker that has seen these changes.
-abbrev pub with_seen : List Entry → Worker → Worker
-with_seen seen w = record w { pass = record w.pass { seen = seen } }
-
--- All changes are published, and every worker has seen them.
+-- All changes are published, and every worker learns of that: from then on its requests are decided by them.
 pub record Publishes (line : ℕ) (s s' : State) (text : List ℕ) : Type 0 where
-  pub state : s' ≡ record s { published = s.changes; workers = map (with_seen s.changes) s.workers }
+  pub state : s' ≡ record s { published = s.changes }
   pub text_is : text ≡ line_of (front_data (length s.changes) line)
 
 -- A connection of which no byte came yet.
@@ -117,14 +112,16 @@ Begins line name worker door None s s' text =
     (s' ≡ record s { clients = update bytes_eq s.clients name (Some (new_client worker door)) }) × (text ≡ [])
 Begins line name worker door (Some client) s s' text = IsNoStep line s s' text
 
--- Each request among these was decided by this list of changes.
-abbrev pub AreDecidedBy : List Entry → List Part → Type 0
-AreDecidedBy list [] = ⊤
-AreDecidedBy list (a_request q h ∷ parts) = (h.changes ≡ list) × AreDecidedBy list parts
-AreDecidedBy list (a_wait ∷ parts) = AreDecidedBy list parts
-AreDecidedBy list (a_refused code ∷ parts) = AreDecidedBy list parts
-AreDecidedBy list (a_close ∷ parts) = AreDecidedBy list parts
-AreDecidedBy list (a_cut ∷ parts) = AreDecidedBy list parts
+-- The requests among these are decided one after the other, each by this list of changes, and by the picks of the worker behind the
+-- requests before it.
+abbrev pub AreDecidedBy : Place → List Entry → Books → Books → List Part → Type 0
+AreDecidedBy p list before after [] = after ≡ before
+AreDecidedBy p list before after (a_request q h ∷ parts) =
+    (h.changes ≡ list) × (h.books ≡ before) × AreDecidedBy p list (books_at p q h) after parts
+AreDecidedBy p list before after (a_wait ∷ parts) = AreDecidedBy p list before after parts
+AreDecidedBy p list before after (a_refused code ∷ parts) = AreDecidedBy p list before after parts
+AreDecidedBy p list before after (a_close ∷ parts) = AreDecidedBy p list before after parts
+AreDecidedBy p list before after (a_cut ∷ parts) = AreDecidedBy p list before after parts
 
 -- What a backend's answer is.
 abbrev pub outcome_of : Answer → Outcome
@@ -160,18 +157,17 @@ AreAnswered orders p (a_close ∷ parts) = AreAnswered orders p parts
 AreAnswered orders p (a_cut ∷ parts) = AreAnswered orders p parts
 
 -- A connection is served by a piece of its bytes, where an empty piece is their end. What came of it is all that the bytes give. Each
--- request among that is decided by the published list, and by the worker's books behind the requests before it, over all its connections.
+-- request among that is decided by the published list, and by the worker's picks behind the requests before it, over all its connections.
 -- The backends answer as the lines before have said. All replies are written.
 pub record Serves (p : Place) (line : ℕ) (name : List ℕ) (c c' : Client) (piece : List ℕ) (ending : Option Ended) (s s' : State) (text : List ℕ) : Type 0 where
-  pub before : Worker
-  pub after : Worker
+  pub before : Books
+  pub after : Books
   pub more : List Part
   pub wrote : List ℕ
   pub worker : slice_get s.workers c.worker ≡ Some before
   pub all : IsAllOf (c.bytes ++ piece) (length piece == 0) (c.parts ++ more)
   pub ends : ended (map bytes_step (c.parts ++ more)) ≡ ending
-  pub decided : Decided p before after more
-  pub by_published : AreDecidedBy s.published more
+  pub decided : AreDecidedBy p s.published before after more
   pub answered : AreAnswered s.orders p more
   pub wrote_is : c.text ++ wrote ≡ written p (c.parts ++ more)
   pub client : c' ≡ record c { bytes = c.bytes ++ piece; parts = c.parts ++ more; text = c.text ++ wrote }
@@ -233,6 +229,17 @@ Runs site line (bytes ∷ lines) moments s s' text =
     (here : List ℤ) × ((later : List ℤ) × ((middle : State) × ((first : List ℕ) × ((rest : List ℕ)
     × ((moments ≡ here ++ later) × (text ≡ first ++ rest) × LineDone (is_blank bytes) site line bytes here s middle first
     × Runs site (line + 1) lines later middle s' rest)))))
+
+-- A line with this reading sends on a connection that is open.
+abbrev pub SendsOn : Result Step StepRefusal → (List ℕ → Option Client) → Type 0
+SendsOn (Ok (an_event bytes)) clients = ⊥
+SendsOn (Ok a_publication) clients = ⊥
+SendsOn (Ok (a_beginning name worker door)) clients = ⊥
+SendsOn (Ok (a_sending name bytes)) clients = (client : Client) × (clients name ≡ Some client)
+SendsOn (Ok (an_end name)) clients = (client : Client) × (clients name ≡ Some client)
+SendsOn (Ok (an_answer socket bytes fill)) clients = ⊥
+SendsOn (Ok (a_failure socket call)) clients = ⊥
+SendsOn (Err e) clients = ⊥
 
 -- The last line, by what stands after all lines.
 abbrev pub totals_text : State → List ℕ

@@ -6,8 +6,9 @@ ghost use Rattle.gw_replay.specs.States.{Answers, Does, Orders};
 use crate::replay::Replay;
 use gw_link::Order;
 use gw_text::{NoMemory, Socket};
+use std::sync::Wait;
 
-impl Replay {
+impl<R: Wait + Drop> Replay<R> {
     /// The backend at the socket answers this text and so many `x` from now on.
     pub(crate) fn answer(
         &mut self,

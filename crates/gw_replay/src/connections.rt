@@ -1,26 +1,31 @@
 //! Connections of clients.
-ghost use Rattle.std.specs.Prelude.{◌≡◌, ◌+◌, ◌<◌, ◌≤◌, ◌^◌, ◌==◌, ◌++◌, ℕ, List, [], Some, length, map, bytes_eq, IfOk, OnOk};
+ghost use Rattle.std.specs.Prelude.{◌≡◌, ◌+◌, ◌<◌, ◌≤◌, ◌^◌, ◌==◌, ◌++◌, ℕ, List, [], Ok, Err, Some, length, map, bytes_eq, IfErr, IfOk, OnOk};
 ghost use Rattle.std.specs.BTreeMap.{get_by_text};
 ghost use Rattle.std.specs.Map.{update};
 ghost use Rattle.gw_link.specs.Upstreams.{Becomes, Refuses};
+ghost use Rattle.gw_snapshots.specs.Lists.{BeginsWith};
 ghost use Rattle.gw_worker.specs.Conns.{IsServing, StandsFor};
 ghost use Rattle.gw_worker.specs.Flows.{Served, outside};
 ghost use Rattle.gw_worker.specs.Workers.{IsAt};
 ghost use Rattle.gw_worker.specs.model.Sessions.{Part, Place};
 ghost use Rattle.gw_replay.specs.Replays.{Begins, Sends};
-ghost use Rattle.gw_replay.specs.States.{Does, HasClient, IsKept, ServedBy, site_of};
+ghost use Rattle.gw_replay.specs.States.{Does, Halted, HaltsAt, HasClient, IsCause, IsKept, IsOpen, ServedBy, Unless, number_of, site_of};
 
 use crate::print::{Said, push_end, push_written};
 use crate::replay::{Client, Replay};
 use crate::rows::push_rows;
+use crate::stop::Stop;
 use gw_answers::ServedRow;
+use gw_hub::Controller;
 use gw_link::{MemLink, MemSink, MemSource, MemUpstream};
 use gw_script::StepRefusal;
+use gw_snapshots::OpenFault;
 use gw_text::NoMemory;
-use gw_worker::{Conn, Flow, Worker};
+use gw_worker::{Conn, ConnFault, Flow, Worker};
 use std::alloc::Global;
+use std::sync::Wait;
 
-impl Replay {
+impl<R: Wait + Drop> Replay<R> {
     /// A connection of this name begins, unless one is open.
     pub(crate) fn open(
         &mut self,
@@ -54,27 +59,29 @@ impl Replay {
     }
 
     /// The client of this name sends a piece, or has sent all where it is empty.
-    pub(crate) fn send(&mut self, number: u64, name: &str, piece: &[u8]) -> Result<(), NoMemory>
+    pub(crate) fn send(&mut self, number: u64, name: &str, piece: &[u8]) -> Result<(), Stop>
         requires kept { IsKept self.old }
         requires few { self.old.refused < 2 ^ 63 }
         ensures does { OnOk result (Does (λ s s' text. Sends (site_of self.old) number name.now piece.now (s.clients name.now) s s' text) self.old self.new) }
+        ensures stops { IfErr result (λ stop. HaltsAt stop (IsOpen name.now) self.old self.new) }
         ensures refused { OnOk result (self.new.refused ≤ self.old.refused + 1) }
         ensures skipped { OnOk result (self.new.skipped ≡ self.old.skipped) }
     {
         let Some(mut client) = self.clients.remove(name) else {
-            return self.refuse_line(number, StepRefusal::NotStep);
+            return Ok(self.refuse_line(number, StepRefusal::NotStep)?);
         };
         let said = Said { name, line: number };
         match self.serve(said, &mut client, piece)? {
-            Flow::More => self.keep(name, client),
+            Flow::More => Ok(self.keep(name, client)?),
             Flow::Ended(_) => Ok(()),
         }
     }
 
     // Serves a connection by a piece, and writes what came of it.
-    fn serve(&mut self, said: Said<'_>, client: &mut Client, piece: &[u8]) -> Result<Flow, NoMemory>
+    fn serve(&mut self, said: Said<'_>, client: &mut Client, piece: &[u8]) -> Result<Flow, Stop>
         requires { HasClient self.old client.old }
         ensures served { IfOk result (λ flow. ServedBy said.entry.line said.entry.name.now piece.now client.old client.new flow self.old self.new) }
+        ensures stops { IfErr result (λ stop. Unless stop (Halted stop self.old self.new)) }
         ensures clients { self.new.clients ≡ self.old.clients }
         ensures refused { self.new.refused ≡ self.old.refused }
         ensures skipped { self.new.skipped ≡ self.old.skipped }
@@ -83,8 +90,9 @@ impl Replay {
         let exchanges = self.backends.exchanges().len();
         let mut link = no_bytes(self.alloc);
         let worker = &mut self.workers[client.worker];
-        let flow = take(
-            &mut client.conn,
+        let flow = take_published(
+            &self.controller,
+            client,
             worker,
             piece,
             &mut link,
@@ -109,6 +117,43 @@ fn no_bytes(alloc: Global) -> MemLink
     MemLink::new(source, sink, Vec::new(alloc))
 }
 
+// What comes of a piece, where the worker has seen no more than is published.
+fn take_published<R: Wait + Drop>(
+    controller: &Controller<R>,
+    client: &mut Client,
+    worker: &mut Worker,
+    piece: &[u8],
+    link: &mut MemLink,
+    backends: &mut MemUpstream,
+) -> Result<Flow, Stop>
+    requires door { client.old.conn.door < length worker.old.pass.fixed.0 }
+    requires serving { IsServing client.old.conn }
+    requires book { worker.old.pass.book ≡ controller.now.book }
+    ensures served { IfOk result (λ flow. (p : Place) (bytes : List ℕ) (parts : List Part) (text : List ℕ) → IsAt worker.old p → StandsFor client.old.conn p bytes parts text
+        → Served (Refuses backends.old backends.new) p worker.old worker.new client.new.conn (bytes ++ piece.now) (length piece.now == 0) parts text
+        (outside (Some link.old.sink.written) (Some backends.old.exchanges) backends.old.calls.faults)
+        (outside (Some link.new.sink.written) (Some backends.new.exchanges) backends.new.calls.faults) flow) }
+    ensures serving { result ≡ Ok Flow.More → IsServing client.new.conn }
+    ensures becomes { OnOk result (Becomes backends.old backends.new) }
+    ensures starved { OnOk result (backends.new.starved ≡ backends.old.starved) }
+    ensures seen { OnOk result (length worker.new.pass.seen ≤ length controller.now.published) }
+    ensures stops { IfErr result (λ stop. IsCause stop (length controller.now.published) worker.new × (Unless stop (number_of stop ≡ client.old.worker))) }
+    ensures later { BeginsWith worker.old.pass.seen worker.new.pass.seen }
+    ensures fixed { worker.new.pass.fixed ≡ worker.old.pass.fixed }
+    ensures book { worker.new.pass.book ≡ worker.old.pass.book }
+    ensures worker { client.new.worker ≡ client.old.worker }
+{
+    let flow = match take(&mut client.conn, worker, piece, link, backends) {
+        Ok(flow) => flow,
+        Err(OpenFault::Place) => return Err(Stop::Place(client.worker)),
+        Err(OpenFault::NoMemory) => return Err(Stop::NoMemory),
+    };
+    if controller.ahead(worker.pass()) {
+        return Err(Stop::Ahead(client.worker));
+    }
+    Ok(flow)
+}
+
 // What comes of a piece. A call that failed for want of memory says nothing of a backend.
 fn take(
     conn: &mut Conn,
@@ -116,7 +161,7 @@ fn take(
     piece: &[u8],
     link: &mut MemLink,
     backends: &mut MemUpstream,
-) -> Result<Flow, NoMemory>
+) -> Result<Flow, OpenFault>
     requires door { conn.old.door < length worker.old.pass.fixed.0 }
     requires serving { IsServing conn.old }
     ensures served { IfOk result (λ flow. (p : Place) (bytes : List ℕ) (parts : List Part) (text : List ℕ) → IsAt worker.old p → StandsFor conn.old p bytes parts text
@@ -126,13 +171,16 @@ fn take(
     ensures serving { result ≡ Ok Flow.More → IsServing conn.new }
     ensures becomes { Becomes backends.old backends.new }
     ensures starved { OnOk result (backends.new.starved ≡ backends.old.starved) }
+    ensures refused { result ≡ Err OpenFault.Place → 0 < worker.new.pass.refused }
+    ensures later { BeginsWith worker.old.pass.seen worker.new.pass.seen }
     ensures fixed { worker.new.pass.fixed ≡ worker.old.pass.fixed }
-    ensures held { worker.new.pass.seen ≡ worker.old.pass.seen }
+    ensures book { worker.new.pass.book ≡ worker.old.pass.book }
 {
     let starved = backends.starved();
     match conn.take(worker, piece, link, backends) {
         Ok(flow) if link.starved() == 0 && backends.starved() == starved => Ok(flow),
-        _ => Err(NoMemory),
+        Err(ConnFault::Place) => Err(OpenFault::Place),
+        _ => Err(OpenFault::NoMemory),
     }
 }
 

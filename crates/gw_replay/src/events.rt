@@ -8,11 +8,12 @@ ghost use Rattle.gw_replay.specs.States.{Does, IsKept, skipped_after};
 
 use crate::print::push_refused;
 use crate::replay::Replay;
-use gw_hub::Outcome;
 use gw_json::Refusal;
+use gw_resolve::Outcome;
 use gw_text::{NoMemory, Second};
+use std::sync::Wait;
 
-impl Replay {
+impl<R: Wait + Drop> Replay<R> {
     /// Takes an event that came at this moment, or refuses its line.
     pub(crate) fn event(&mut self, number: u64, event: &[u8], now: Second) -> Result<(), NoMemory>
         requires kept { IsKept self.old }

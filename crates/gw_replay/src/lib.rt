@@ -3,6 +3,7 @@
 
 mod backends;
 mod connections;
+mod ending;
 mod events;
 mod lines;
 mod output;
@@ -10,6 +11,8 @@ mod print;
 mod publications;
 mod replay;
 mod rows;
+mod stop;
 mod totals;
 
+pub use ending::{Ending, Replayed};
 pub use output::replay_output;

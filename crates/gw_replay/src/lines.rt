@@ -1,44 +1,59 @@
 //! The lines of a script, one after the other.
-ghost use Rattle.std.specs.Prelude.{◌≡◌, ◌+◌, ◌<◌, ◌≤◌, ◌^◌, length, OnOk};
+ghost use Rattle.std.specs.Prelude.{◌≡◌, ◌+◌, ◌<◌, ◌≤◌, ◌^◌, length, Ok, IfErr, OnOk};
 ghost use Rattle.gw_link.specs.declared.source.TheConstants.{MOST_INPUT};
-ghost use Rattle.gw_report.specs.Lines.{is_blank as is_blank_line, lines_of};
+ghost use Rattle.gw_store.specs.Lines.{is_blank as is_blank_line, lines_of};
 ghost use Rattle.gw_script.specs.Refusals.{step_refusal_number, step_refusal_path};
 ghost use Rattle.gw_script.specs.Seen.{seen_step};
 ghost use Rattle.gw_script.specs.Steps.{IsWithin};
-ghost use Rattle.gw_replay.specs.Replays.{IsRefused, LineDone, StepDone};
-ghost use Rattle.gw_replay.specs.States.{Does, DoesInTurn, IsKept, RunsTo, site_of};
+ghost use Rattle.gw_replay.specs.Replays.{IsRefused, LineDone, SendsOn, StepDone};
+ghost use Rattle.gw_replay.specs.States.{Does, DoesInTurn, HaltsAt, IsKept, RunsTo, Sends, StopsIn, site_of};
 
 use crate::replay::Replay;
+use crate::stop::Stop;
 use gw_link::{Clock, MOST_INPUT, Order};
-use gw_report::{first_line, is_blank};
 use gw_script::{Step, StepRefusal, read_step};
+use gw_store::{first_line, is_blank};
 use gw_text::NoMemory;
+use std::sync::Wait;
 
-impl Replay {
+impl<R: Wait + Drop> Replay<R> {
     /// Does what the lines of an input say, in their order.
-    pub(crate) fn lines<C: Clock>(&mut self, input: &[u8], clock: &mut C) -> Result<(), NoMemory>
+    pub(crate) fn lines<W: Wait, C: Clock>(
+        &mut self,
+        rt: &W,
+        input: &[u8],
+        clock: &mut C,
+    ) -> Result<(), Stop>
         requires kept { IsKept self.old }
         requires none { self.old.refused + self.old.skipped ≡ 0 }
         requires bound { length input.now ≤ MOST_INPUT }
-        ensures { OnOk result (RunsTo 1 (lines_of input.now) (C.moments clock.old) (C.moments clock.new) self.old self.new) }
+        ensures runs { OnOk result (RunsTo 1 (lines_of input.now) (C.moments clock.old) (C.moments clock.new) self.old self.new) }
+        ensures stops { IfErr result (λ stop. StopsIn stop 1 (lines_of input.now) (C.moments clock.old) self.old self.new) }
     {
         let mut rest = Some(input);
         let mut number = 1u64;
         'lines: while let Some(text) = rest {
             let (line, left) = first_line(text);
-            self.line(number, line, clock)?;
+            self.line(rt, number, line, clock)?;
             number += 1;
             rest = left;
         }
         Ok(())
     }
 
-    fn line<C: Clock>(&mut self, number: u64, line: &[u8], clock: &mut C) -> Result<(), NoMemory>
+    fn line<W: Wait, C: Clock>(
+        &mut self,
+        rt: &W,
+        number: u64,
+        line: &[u8],
+        clock: &mut C,
+    ) -> Result<(), Stop>
         requires kept { IsKept self.old }
         requires few { self.old.refused + self.old.skipped < number }
         requires bound { number < 2 ^ 63 }
         ensures does { OnOk result (DoesInTurn (λ moments s s' text. LineDone (is_blank_line line.now) (site_of self.old) number line.now moments s s' text)
             (C.moments clock.old) (C.moments clock.new) self.old self.new) }
+        ensures stops { IfErr result (λ stop. HaltsAt stop (Sends (length self.old.workers.items) (length (site_of self.old).doors) line.now) self.old self.new) }
         ensures few { OnOk result (self.new.refused + self.new.skipped ≤ number) }
     {
         if is_blank(line) {
@@ -46,28 +61,35 @@ impl Replay {
         }
         let doors = self.controller.doors();
         match read_step(self.alloc, line, self.workers.len(), doors) {
-            Ok(step) => self.step(number, step, clock),
-            Err(refusal) => self.refuse_line(number, refusal),
+            Ok(step) => self.step(rt, number, step, clock),
+            Err(refusal) => Ok(self.refuse_line(number, refusal)?),
         }
     }
 
-    fn step<C: Clock>(&mut self, number: u64, step: Step<'_>, clock: &mut C) -> Result<(), NoMemory>
+    fn step<W: Wait, C: Clock>(
+        &mut self,
+        rt: &W,
+        number: u64,
+        step: Step<'_>,
+        clock: &mut C,
+    ) -> Result<(), Stop>
         requires kept { IsKept self.old }
         requires few { self.old.refused + self.old.skipped < number }
         requires bound { number < 2 ^ 63 }
         requires within { IsWithin (length self.old.workers.items) (length (site_of self.old).doors) (seen_step step) }
         ensures does { OnOk result (DoesInTurn (λ moments s s' text. StepDone (site_of self.old) number (seen_step step.entry) moments s s' text)
             (C.moments clock.old) (C.moments clock.new) self.old self.new) }
+        ensures stops { IfErr result (λ stop. HaltsAt stop (λ s. SendsOn (Ok (seen_step step.entry)) s.clients) self.old self.new) }
         ensures few { OnOk result (self.new.refused + self.new.skipped ≤ number) }
     {
         match step {
-            Step::Event(event) => self.event(number, event, clock.now()),
-            Step::Publish => self.publish(number),
-            Step::Open { name, worker, door } => self.open(number, name, worker, door),
+            Step::Event(event) => Ok(self.event(number, event, clock.now())?),
+            Step::Publish => Ok(self.publish(rt, number)?),
+            Step::Open { name, worker, door } => Ok(self.open(number, name, worker, door)?),
             Step::Send { name, bytes } => self.send(number, name, bytes.as_slice()),
             Step::End { name } => self.send(number, name, &[]),
-            Step::Answer { socket, text, fill } => self.answer(socket, text, fill),
-            Step::Fail { socket, call } => self.order(Order::Fails(socket, call)),
+            Step::Answer { socket, text, fill } => Ok(self.answer(socket, text, fill)?),
+            Step::Fail { socket, call } => Ok(self.order(Order::Fails(socket, call))?),
         }
     }
 

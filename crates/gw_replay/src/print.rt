@@ -54,6 +54,39 @@ fn front_value(alloc: Global, front: u64, line: u64) -> Result<Value, NoMemory>
     json!(in alloc; {"front": front, "line": line})
 }
 
+/// There was no place to read from.
+pub(crate) fn push_place(alloc: Global, text: &mut String) -> Result<(), NoMemory>
+    ensures { OnOk result (string_bytes text.new ≡ string_bytes text.old ++ line_of lines.place_data) }
+{
+    let value = place_value(alloc)?;
+    push_line(alloc, text, &value)
+}
+
+fn place_value(alloc: Global) -> Result<Value, NoMemory>
+    ensures { IfOk result (λ v. view v ≡ lines.place_data) }
+{
+    json!(in alloc; {"fault": "Place"})
+}
+
+/// A worker had seen so many changes, which are more than are published.
+pub(crate) fn push_ahead(
+    alloc: Global,
+    text: &mut String,
+    front: u64,
+    seen: u64,
+) -> Result<(), NoMemory>
+    ensures { OnOk result (string_bytes text.new ≡ string_bytes text.old ++ line_of (lines.ahead_data front seen)) }
+{
+    let value = ahead_value(alloc, front, seen)?;
+    push_line(alloc, text, &value)
+}
+
+fn ahead_value(alloc: Global, front: u64, seen: u64) -> Result<Value, NoMemory>
+    ensures { IfOk result (λ v. view v ≡ lines.ahead_data front seen) }
+{
+    json!(in alloc; {"fault": "Ahead", "front": front, "seen": seen})
+}
+
 /// What the client was written, if it was.
 pub(crate) fn push_written(
     alloc: Global,

@@ -1,38 +1,40 @@
 //! Publications.
-ghost use Rattle.std.specs.Prelude.{◌≡◌, List, OnOk, map};
-ghost use Rattle.gw_snap.specs.Lists.{BeginsWith};
+ghost use Rattle.std.specs.Prelude.{◌≡◌, ℕ, List, OnOk};
 ghost use Rattle.gw_store.specs.declared.event.Entry.{Entry as Change};
-ghost use Rattle.gw_replay.specs.Replays.{Publishes, with_seen};
-ghost use Rattle.gw_replay.specs.States.{Does, HaveSeen, IsKept};
+ghost use Rattle.gw_text.specs.model.Doors.{Door};
+ghost use Rattle.gw_replay.specs.Replays.{Publishes};
+ghost use Rattle.gw_replay.specs.States.{Does, HaveSeen, IsKept, picks_of};
 
 use crate::print::push_front;
 use crate::replay::Replay;
 use gw_match::Tables;
-use gw_snap::Note;
+use gw_snapshots::Note;
 use gw_text::NoMemory;
 use gw_worker::Worker;
+use std::sync::Wait;
 
-impl Replay {
+impl<R: Wait + Drop> Replay<R> {
     /// Publishes all changes, of which every worker learns.
-    pub(crate) fn publish(&mut self, number: u64) -> Result<(), NoMemory>
+    pub(crate) fn publish<W: Wait>(&mut self, rt: &W, number: u64) -> Result<(), NoMemory>
         requires { IsKept self.old }
         ensures does { OnOk result (Does (λ s s' text. Publishes number s s' text) self.old self.new) }
         ensures refused { self.new.refused ≡ self.old.refused }
         ensures skipped { self.new.skipped ≡ self.old.skipped }
     {
-        let note = self.controller.publish()?;
-        learn_all(&mut self.workers, &note)?;
+        let mut note = self.controller.publish(rt)?;
+        learn_all(&mut self.workers, &mut note);
         push_front(self.alloc, &mut self.text, self.controller.front(), number)
     }
 }
 
 // Every worker learns of the publication.
-fn learn_all(workers: &mut [Worker], note: &Note<Tables>) -> Result<(), NoMemory>
-    requires { (list : List Change) × (BeginsWith list note.now.seen × HaveSeen (record { seen = list; fixed = note.now.fixed }) workers.old) }
-    ensures { OnOk result (workers.new ≡ map (with_seen note.now.seen) workers.old) }
+fn learn_all(workers: &mut [Worker], note: &mut Note<Tables>)
+    requires { (list : List Change) × ((fixed : List Door × List ℕ) × HaveSeen list fixed note.old.book workers.old) }
+    ensures seen { (list : List Change) (fixed : List Door × List ℕ) → HaveSeen list fixed note.old.book workers.old
+        → HaveSeen note.old.list fixed note.old.book workers.new }
+    ensures picks { picks_of workers.new ≡ picks_of workers.old }
 {
     'workers: for place in 0..workers.len() {
-        workers[place].learn(note)?;
+        workers[place].learn(note);
     }
-    Ok(())
 }

@@ -1,18 +1,19 @@
 //! What is kept from line to line.
-ghost use Rattle.std.specs.Prelude.{◌≡◌, ◌++◌, ◌<◌, ◌^◌, [], IfOk, map, string_bytes};
-ghost use Rattle.gw_hub.specs.Control.{beginning as new_control};
-ghost use Rattle.gw_snap.specs.Lists.{copies};
+ghost use Rattle.std.specs.Prelude.{◌≡◌, ◌++◌, ◌<◌, ◌^◌, [], IfOk, IfErr, OnOk, map, string_bytes};
+ghost use Rattle.gw_snapshots.specs.Counts.{CountsPlace};
 ghost use Rattle.gw_replay.specs.Replays.{beginning};
 ghost use Rattle.gw_replay.specs.States.{Keeps, site_of, worker_over};
 
+use crate::ending::{Ending, Replayed};
 use gw_hub::Controller;
 use gw_link::MemUpstream;
 use gw_match::Tables;
-use gw_snap::Passes;
+use gw_snapshots::{OpenFault, Passes, SnapFaults};
 use gw_text::{Doors, NoMemory, Text};
 use gw_worker::{Conn, Worker};
 use std::alloc::Global;
 use std::collections::BTreeMap;
+use std::sync::Wait;
 
 /// An open connection, and the number of its worker.
 #[derive(Drop)]
@@ -22,10 +23,9 @@ pub(crate) struct Client {
 }
 
 /// What stands after the lines so far.
-#[derive(Drop)]
-pub(crate) struct Replay {
+pub(crate) struct Replay<R: Wait + Drop> {
     pub(crate) alloc: Global,
-    pub(crate) controller: Controller,
+    pub(crate) controller: Controller<R>,
     pub(crate) workers: Vec<Worker>,
     /// The open connections by their names.
     pub(crate) clients: BTreeMap<String, Client>,
@@ -38,23 +38,47 @@ pub(crate) struct Replay {
     pub(crate) text: String,
 }
 
-impl Replay {
+// Written out, since the handle that the controller ends with isn't known.
+impl<R: Wait + Drop> Drop for Replay<R> {
+    fn drop(self) {
+        let Replay {
+            alloc: _,
+            controller: _,
+            workers: _,
+            clients: _,
+            backends: _,
+            statuses: _,
+            refused: _,
+            skipped: _,
+            text: _,
+        } = self;
+    }
+}
+
+impl<R: Wait + Drop> Replay<R> {
     /// Before the first line.
     pub(crate) fn new(
         alloc: Global,
+        rt: R,
+        snap: &mut SnapFaults,
         doors: Doors,
         controller: Text,
         workers: usize,
-    ) -> Result<Replay, NoMemory>
+    ) -> Result<Replay<R>, OpenFault>
         requires some { 0 < workers }
         requires few { workers < 2 ^ 32 }
-        ensures keeps { IfOk result (λ r. Keeps r (beginning (record { doors = doors; controller = controller }) workers)) }
+        ensures keeps { IfOk result (λ r. Keeps r (beginning workers)) }
         ensures site { IfOk result (λ r. site_of r ≡ record { doors = doors; controller = controller }) }
         ensures text { IfOk result (λ r. string_bytes r.text ≡ []) }
         ensures refused { IfOk result (λ r. r.refused ≡ 0) }
         ensures skipped { IfOk result (λ r. r.skipped ≡ 0) }
+
+        // A place that was refused is counted, and nothing else is.
+        ensures ok { OnOk result (snap.new.places ≡ snap.old.places) }
+        ensures places { IfErr result (λ e. CountsPlace e snap.old.places snap.new.places) }
+        ensures ahead { snap.new.ahead ≡ snap.old.ahead }
     {
-        let (controller, passes) = opened(alloc, doors, controller, workers)?;
+        let (controller, passes) = Controller::open(alloc, rt, snap, doors, controller, workers)?;
         let workers = workers_over(alloc, passes)?;
         Ok(Replay {
             alloc,
@@ -68,24 +92,27 @@ impl Replay {
             text: String::new(alloc),
         })
     }
-}
 
-// A controller that took no change, and a pass for each of so many workers.
-fn opened(
-    alloc: Global,
-    doors: Doors,
-    controller: Text,
-    workers: usize,
-) -> Result<(Controller, Passes<Tables>), NoMemory>
-    requires some { 0 < workers }
-    requires few { workers < 2 ^ 32 }
-    ensures controller { IfOk result (λ opened. opened.0 ≡ new_control doors controller) }
-    ensures passes { IfOk result (λ opened. opened.1 ≡ copies workers (record { seen = []; fixed = (doors, controller) })) }
-{
-    // In this form there is always a place.
-    match Controller::open(alloc, doors, controller, workers) {
-        Ok(opened) => Ok(opened),
-        Err(_) => Err(NoMemory),
+    /// What was written, and how the script came to its end.
+    pub(crate) fn ended(self, ending: Ending) -> Replayed
+        ensures text { result.text ≡ string_bytes self.text }
+        ensures ending { result.ending ≡ ending }
+    {
+        let Replay {
+            alloc: _,
+            controller: _,
+            workers: _,
+            clients: _,
+            backends: _,
+            statuses: _,
+            refused: _,
+            skipped: _,
+            text,
+        } = self;
+        Replayed {
+            text: Text::from_vec(text.into_bytes()),
+            ending,
+        }
     }
 }
 

@@ -1,29 +1,30 @@
 //! The last line.
-ghost use Rattle.std.specs.Prelude.{◌≡◌, ℕ, ◌+◌, ◌<◌, ◌^◌, ◌++◌, List, length, IfOk, OnOk, string_bytes};
+ghost use Rattle.std.specs.Prelude.{◌≡◌, ℕ, ◌+◌, ◌<◌, ◌^◌, ◌++◌, List, length, nat_lt, IfOk, OnOk, string_bytes};
 ghost use Rattle.serde_json.specs.View.{members_view, view};
 ghost use Rattle.gw_replay.specs.Lines as lines;
 ghost use Rattle.gw_replay.specs.Replays.{State, totals_text};
-ghost use Rattle.gw_replay.specs.States.{AreAtMost, IsKept, Keeps};
+ghost use Rattle.gw_replay.specs.States.{AreAtMost, Keeps};
 
+use crate::ending::Ending;
 use crate::replay::Replay;
 use gw_json::{push_line, put_number};
 use gw_text::NoMemory;
 use serde_json::{Map, Value, json};
 use std::alloc::Global;
+use std::sync::Wait;
 
-impl Replay {
+impl<R: Wait + Drop> Replay<R> {
     /// Writes the last line: what was taken, published, refused and skipped, and the rows by their statuses.
-    pub(crate) fn end(&mut self) -> Result<(), NoMemory>
-        requires { IsKept self.old }
+    pub(crate) fn end(&mut self) -> Result<Ending, NoMemory>
         ensures text { OnOk result ((s : State) → Keeps self.old s → string_bytes self.new.text ≡ string_bytes self.old.text ++ totals_text s) }
-        ensures refused { self.new.refused ≡ self.old.refused }
+        ensures ending { IfOk result (λ ending. ending ≡ Ending.Done (nat_lt 0 self.old.refused)) }
     {
         let value = self.totals()?;
-        push_line(self.alloc, &mut self.text, &value)
+        push_line(self.alloc, &mut self.text, &value)?;
+        Ok(Ending::Done(self.refused > 0))
     }
 
     fn totals(&self) -> Result<Value, NoMemory>
-        requires { IsKept self.now }
         ensures { IfOk result (λ v. view v ≡ lines.totals_data (length self.now.controller.changes) (length self.now.controller.published) self.now.refused self.now.statuses.items self.now.skipped) }
     {
         let statuses = statuses_value(self.alloc, self.statuses.as_slice())?;

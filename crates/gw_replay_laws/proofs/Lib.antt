@@ -1,6 +1,8 @@
 pub mod Orders
 pub mod Requests
+pub mod Rising
 pub mod Runs
+pub mod Scheduling
 pub mod Serving
 pub mod States
 pub mod Steps

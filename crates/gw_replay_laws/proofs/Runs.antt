@@ -3,7 +3,7 @@ use Rattle.std.proofs.Common.{◌≡◌, ℕ, ℤ, ◌+◌, ◌≤◌, Bool, tru
 use Rattle.gw_link.specs.Moments.{TicksInTurn}
 use Rattle.gw_replay.specs.Outputs.{IsReplay, IsReplayAt}
 use Rattle.gw_replay.specs.Replays.{LineDone, Runs, SaidDone, Site, State, StepDone, beginning}
-use Rattle.gw_report.specs.Lines.{is_blank, lines_of}
+use Rattle.gw_store.specs.Lines.{is_blank, lines_of}
 use Rattle.gw_script.specs.Scripts.{step_of as said_step}
 use Rattle.gw_script.specs.Steps.{Step, an_event, a_publication, a_beginning, a_sending, an_end, an_answer, a_failure}
 use Rattle.gw_script.specs.declared.refusal.StepRefusal.{StepRefusal}
@@ -51,8 +51,8 @@ same_replays : (doors : List Door) (controller : List ℕ) (workers : ℕ) (inpu
 same_replays doors controller workers input moments moments₂ more more₂ text text₂ refused refused₂ e x y =
     let site : Site = record { doors = doors; controller = controller } in
     let same : SameLine more more₂ x.last y.last x.lines y.lines =
-    same_runs site 1 (lines_of input) moments moments₂ more more₂ (beginning site workers) x.last (beginning site workers) y.last x.lines y.lines
-    (alike_itself (beginning site workers)) e x.runs y.runs in (
+    same_runs site 1 (lines_of input) moments moments₂ more more₂ (beginning workers) x.last (beginning workers) y.last x.lines y.lines
+    (alike_itself (beginning workers)) e x.runs y.runs in (
       x.text_is ∙ ap₂ (λ (a b : List ℕ). a ++ b) same.done.text_is (same_totals x.last y.last same.done.state) ∙ sym y.text_is,
       x.refused_is ∙ ap (nat_lt 0) same.done.state.refused ∙ sym y.refused_is,
     )
@@ -118,9 +118,9 @@ pub told_unique : (doors : List Door) (controller : List ℕ) (workers : ℕ) (i
 told_unique doors controller workers input told text text₂ refused refused₂ enough x y =
     let site : Site = record { doors = doors; controller = controller } in
     let few : length x.moments ≤ length (lines_of input) =
-    lines_take site 1 (lines_of input) x.moments (beginning site workers) x.replay.last x.replay.lines x.replay.runs in
+    lines_take site 1 (lines_of input) x.moments (beginning workers) x.replay.last x.replay.lines x.replay.runs in
     let few₂ : length y.moments ≤ length (lines_of input) =
-    lines_take site 1 (lines_of input) y.moments (beginning site workers) y.replay.last y.replay.lines y.replay.runs in
+    lines_take site 1 (lines_of input) y.moments (beginning workers) y.replay.last y.replay.lines y.replay.runs in
     let left = first_told told x.moments x.after x.in_turn (omega (arith, few, enough)) in
     let left₂ = first_told told y.moments y.after y.in_turn (omega (arith, few₂, enough)) in
     same_replays doors controller workers input x.moments y.moments left.0 left₂.0 text text₂ refused refused₂ (sym left.1 ∙ left₂.1) x.replay y.replay

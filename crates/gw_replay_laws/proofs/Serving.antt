@@ -1,16 +1,16 @@
 -- A connection is served alike in two states that are alike.
 use Rattle.std.proofs.Common.{◌≡◌, ℕ, ◌==◌, List, ◌++◌, length, map, set, slice_get, refl, sym, ap, ap₂, ◌∙◌, subst, subst₂, Option, Some}
-use Rattle.std.proofs.lemmas.List.{append_cancel_left, map-append, map-set}
+use Rattle.std.proofs.lemmas.List.{append_cancel_left, map-append}
+use Rattle.gw_answers.specs.declared.books.Books.{Books}
 use Rattle.gw_answers.specs.model.ServedRows.{ServedRow}
 use Rattle.gw_frames.specs.declared.ended.Ended.{Ended}
 use Rattle.gw_frames.specs.model.Requests.{Asks, a_head, ended}
 use Rattle.gw_message_laws.proofs.RequestLaws.{steps_unique}
 use Rattle.gw_replay.specs.Lines.{end_text, rows_text, written_text}
 use Rattle.gw_replay.specs.Replays.{Client, Serves, State}
-use Rattle.gw_worker.specs.declared.worker.Worker.{Worker}
 use Rattle.gw_worker.specs.model.Sessions.{Part, Place, step_of, written}
 use Rattle.gw_replay_laws.proofs.Requests.{AlikeBefore, SameBehind, same_requests}
-use Rattle.gw_replay_laws.proofs.States.{Alike, ClientView, books_of, client_view, same_books, same_join}
+use Rattle.gw_replay_laws.proofs.States.{Alike, ClientView, client_view, same_books, same_join}
 use Rattle.gw_replay_laws.proofs.Views.{PartView, part_view, same_rows, same_steps, same_texts, same_written}
 
 -- what is served alike
@@ -48,10 +48,9 @@ same_text name line p more more₂ wrote wrote₂ ending ending₂ e₁ e₂ e�
     ap₂ (λ (a b : List ℕ). a ++ b) (ap₂ (λ (a b : List ℕ). a ++ b) (same_texts name line p more more₂ e₁) (ap (written_text name line) e₂))
     (ap (end_text name line) e₃)
 
-same_workers : (workers workers₂ : List Worker) (number number₂ : ℕ) (w v : Worker) → map books_of workers ≡ map books_of workers₂ → number ≡ number₂
-    → w.books ≡ v.books → map books_of (set workers number w) ≡ map books_of (set workers₂ number₂ v)
-same_workers workers workers₂ number number₂ w v e₁ e₂ e₃ =
-    map-set books_of workers number w ∙ rw (e₁, e₂, e₃) refl ∙ sym (map-set books_of workers₂ number₂ v)
+same_workers : (workers workers₂ : List Books) (number number₂ : ℕ) (w v : Books) → workers ≡ workers₂ → number ≡ number₂ → w ≡ v
+    → set workers number w ≡ set workers₂ number₂ v
+same_workers workers workers₂ number number₂ w v e₁ e₂ e₃ = rw (e₁, e₂, e₃) refl
 
 pub same_serves : (p : Place) (line : ℕ) (name piece : List ℕ) (c d c' d' : Client) (ending ending₂ : Option Ended) (s t s' t' : State) (text text₂ : List ℕ)
     → Alike s t → client_view c ≡ client_view d → Serves p line name c c' piece ending s s' text → Serves p line name d d' piece ending₂ t t' text₂
@@ -76,8 +75,7 @@ same_serves p line name piece c d c' d' ending ending₂ s t s' t' text text₂ 
     let handled : SameBehind x.after y.after x.more y.more =
     same_requests p s.published t.published s.orders t.orders x.before y.before x.after y.after x.more y.more
     (same_more c.parts d.parts x.more y.more parts all) before
-    (record { decided = x.decided; by_list = x.by_published; answered = x.answered })
-    (record { decided = y.decided; by_list = y.by_published; answered = y.answered }) in
+    (record { decided = x.decided; answered = x.answered }) (record { decided = y.decided; answered = y.answered }) in
     let views : map part_view (c.parts ++ x.more) ≡ map part_view (d.parts ++ y.more) = same_join part_view c.parts d.parts x.more y.more parts handled.views in
     let wrote : x.wrote ≡ y.wrote =
     same_wrote c.text d.text x.wrote y.wrote (written p (c.parts ++ x.more)) (written p (d.parts ++ y.more)) shown

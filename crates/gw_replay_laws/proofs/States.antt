@@ -1,7 +1,6 @@
 -- Two states that give the same text from here on.
 use Rattle.std.proofs.Common.{◌≡◌, ℕ, Bool, true, false, cond, List, ◌++◌, length, map, slice_get, bytes_eq, refl, sym, ap, ap₂, ◌∙◌, Option, Some, option_map}
 use Rattle.std.proofs.lemmas.List.{length-map, map-append}
-use Rattle.std.proofs.lemmas.Option.{slice_get-map}
 use Rattle.std.specs.Map.{update}
 use Rattle.gw_answers.specs.declared.books.Books.{Books}
 use Rattle.gw_json.specs.Lines.{line_of}
@@ -10,7 +9,6 @@ use Rattle.gw_replay.specs.Lines.{totals_data}
 use Rattle.gw_replay.specs.Replays.{Client, State, totals_text}
 use Rattle.gw_store.specs.declared.event.Entry.{Entry}
 use Rattle.gw_text.specs.model.World.{world_of}
-use Rattle.gw_worker.specs.declared.worker.Worker.{Worker}
 use Rattle.gw_replay_laws.proofs.Orders.{order_view}
 use Rattle.gw_replay_laws.proofs.Views.{PartView, part_view}
 
@@ -25,13 +23,10 @@ pub record ClientView : Type 0 where
 abbrev pub client_view : Client → ClientView
 client_view c = record { worker = c.worker; door = c.door; bytes = c.bytes; parts = map part_view c.parts; text = c.text }
 
-abbrev pub books_of : Worker → Books
-books_of w = w.books
-
 pub record Alike (s t : State) : Type 0 where
   pub changes : map change_of s.changes ≡ map change_of t.changes
   pub published : map change_of s.published ≡ map change_of t.published
-  pub workers : map books_of s.workers ≡ map books_of t.workers
+  pub workers : s.workers ≡ t.workers
   pub clients : (name : List ℕ) → option_map client_view (s.clients name) ≡ option_map client_view (t.clients name)
   pub orders : map order_view s.orders ≡ map order_view t.orders
   pub statuses : s.statuses ≡ t.statuses
@@ -52,12 +47,10 @@ same_join {B = B} f list other more others e₁ e₂ =
 pub some_same : {A : Type 0} (a b : A) → Some a ≡ Some b → a ≡ b
 some_same a b e = cc
 
--- workers of one number have the same books
-pub same_books : (workers others : List Worker) (number : ℕ) (w v : Worker) → map books_of workers ≡ map books_of others
-    → slice_get workers number ≡ Some w → slice_get others number ≡ Some v → w.books ≡ v.books
-same_books workers others number w v e x y =
-    some_same w.books v.books (sym (ap (option_map books_of) x) ∙ sym (slice_get-map books_of workers number)
-    ∙ ap (λ list. slice_get list number) e ∙ slice_get-map books_of others number ∙ ap (option_map books_of) y)
+-- workers of one number have the same picks
+pub same_books : (workers others : List Books) (number : ℕ) (w v : Books) → workers ≡ others
+    → slice_get workers number ≡ Some w → slice_get others number ≡ Some v → w ≡ v
+same_books workers others number w v e x y = some_same w v (sym x ∙ ap (λ list. slice_get list number) e ∙ y)
 
 -- the connection of one name changes alike
 changed : (test : Bool) (a b c d : Option Client) → option_map client_view a ≡ option_map client_view b → option_map client_view c ≡ option_map client_view d

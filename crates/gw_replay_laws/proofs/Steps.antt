@@ -9,19 +9,17 @@ use Rattle.gw_link.specs.declared.order.Order.{Order}
 use Rattle.gw_link.specs.declared.order.Order.TheVariants.{Answers, Fails}
 use Rattle.gw_match.specs.model.Telling.{change_of, world_after}
 use Rattle.gw_replay.specs.Lines.{front_data}
-use Rattle.gw_replay.specs.Replays.{Begins, Client, EventDone, IsAnswer, IsRefused, LineDone, Publishes, SaidDone, Sends, Serves, Site, State, StepDone, new_client, place_at, unless_ended, with_order, with_seen}
+use Rattle.gw_replay.specs.Replays.{Begins, Client, EventDone, IsAnswer, IsRefused, LineDone, Publishes, SaidDone, Sends, Serves, Site, State, StepDone, new_client, place_at, unless_ended, with_order}
 use Rattle.gw_script.specs.Refusals.{step_refusal_number, step_refusal_path}
 use Rattle.gw_script.specs.Scripts.{step_of as said_step}
 use Rattle.gw_script.specs.Steps.{Step, an_event, a_publication, a_beginning, a_sending, an_end, an_answer, a_failure}
 use Rattle.gw_script.specs.declared.refusal.StepRefusal.{StepRefusal}
 use Rattle.gw_script.specs.declared.refusal.StepRefusal.TheVariants.{NotStep}
 use Rattle.gw_store.specs.Events.{Read, a_change, is_skipped, answer}
-use Rattle.gw_store.specs.declared.event.Entry.{Entry}
 use Rattle.gw_text.specs.model.Addresses.{Socket}
-use Rattle.gw_worker.specs.declared.worker.Worker.{Worker}
 use Rattle.gw_replay_laws.proofs.Orders.{answers_view, order_view}
 use Rattle.gw_replay_laws.proofs.Serving.{SameServed, same_serves}
-use Rattle.gw_replay_laws.proofs.States.{Alike, ClientView, books_of, client_view, same_clients, same_join, same_length, same_world, some_same}
+use Rattle.gw_replay_laws.proofs.States.{Alike, ClientView, client_view, same_clients, same_join, same_length, same_world, some_same}
 
 -- the text and the states are alike, and so are the moments that are left
 pub record SameDone (s t : State) (text text₂ : List ℕ) : Type 0 where
@@ -80,18 +78,13 @@ same_event line at (Ok is_skipped) s s' t t' text text₂ same x y = record {
 }
 same_event line at (Err e) s s' t t' text text₂ same x y = same_refusal line (refusal_number e) (refusal_path e) s s' t t' text text₂ same x y
 
--- what workers have seen is not in their books
-seen_books : (seen : List Entry) (workers : List Worker) → map books_of (map (with_seen seen) workers) ≡ map books_of workers
-seen_books seen [] = refl
-seen_books seen (w ∷ workers) = ap (λ list. w.books ∷ list) (seen_books seen workers)
-
 same_publication : (line : ℕ) (s s' t t' : State) (text text₂ : List ℕ) → Alike s t → Publishes line s s' text → Publishes line t t' text₂
     → SameDone s' t' text text₂
 same_publication line s s' t t' text text₂ same x y = record {
   state = subst₂ Alike (sym x.state) (sym y.state) (record {
     changes = same.changes;
     published = same.changes;
-    workers = seen_books s.changes s.workers ∙ same.workers ∙ sym (seen_books t.changes t.workers);
+    workers = same.workers;
     clients = same.clients;
     orders = same.orders;
     statuses = same.statuses;
@@ -260,4 +253,4 @@ same_line true site line bytes here here₂ later later₂ s s' t t' text text�
 same_line false site line bytes here here₂ later later₂ s s' t t' text text₂ same e x y =
     same_said site line (said_step (length s.workers) (length site.doors) bytes) here here₂ later later₂ s s' t t' text text₂ same e x
     (subst (λ number. SaidDone site line (said_step number (length site.doors) bytes) here₂ t t' text₂)
-    (sym (same_length books_of s.workers t.workers same.workers)) y)
+    (sym (ap length same.workers)) y)

@@ -1,6 +1,6 @@
 ghost use Rattle.std.specs.Prelude.{◌≡◌, ◌≤◌, ℕ, ℤ, List, Bool, Some, length};
 ghost use Rattle.gw_replay.specs.Outputs.{IsReplay, IsReplayAt};
-ghost use Rattle.gw_report.specs.Lines.{lines_of};
+ghost use Rattle.gw_store.specs.Lines.{lines_of};
 ghost use Rattle.gw_text.specs.model.Doors.{Door};
 
 /// A script has one text only, for so many workers and the moments of its events, and either a line of it is refused or none is.

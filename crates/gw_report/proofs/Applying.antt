@@ -12,7 +12,7 @@ use Rattle.gw_text.specs.model.Objects.{Event, Change}
 use Rattle.gw_text.specs.model.World.{World, nothing, is_full, apply, world_of, after_changes}
 use Rattle.gw_link.specs.Moments.{Ticks, TicksInTurn}
 use Rattle.gw_store.specs.Events.{Read, a_change, is_skipped, read_of, answer}
-use Rattle.gw_report.specs.Lines.{is_blank}
+use Rattle.gw_store.specs.Lines.{is_blank}
 use Rattle.gw_report.specs.EventLines.{LineResults, Refused, is_event_line, refused_by, with_line, with_answer, results_after}
 use Rattle.gw_report.specs.RunText.{refused_data, refused_text, status_text, status_results_text, explanation_text, explanation_results_text}
 use Rattle.gw_report.specs.Reports.{Tells, Applies, Takes, Refuses, world_with, skips}

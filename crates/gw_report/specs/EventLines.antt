@@ -6,7 +6,7 @@ use Rattle.gw_json.specs.Refusals.{refusal_number, refusal_path}
 use Rattle.gw_text.specs.model.Objects.{Change}
 use Rattle.gw_text.specs.model.World.{world_of}
 use Rattle.gw_store.specs.Events.{Read, a_change, is_skipped, answer}
-use Rattle.gw_report.specs.Lines.{is_blank}
+use Rattle.gw_store.specs.Lines.{is_blank}
 
 -- A line is one of an event unless it is blank.
 abbrev pub is_event_line : List ℕ → Bool

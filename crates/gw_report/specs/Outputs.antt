@@ -1,7 +1,7 @@
 -- What is given for an input: its text, and whether a line is refused.
 use Rattle.std.specs.Prelude.{◌≡◌, ℕ, ℤ, Bool, List, length, filter, Option}
 use Rattle.gw_link.specs.Moments.{TicksInTurn}
-use Rattle.gw_report.specs.Lines.{lines_of}
+use Rattle.gw_store.specs.Lines.{lines_of}
 use Rattle.gw_report.specs.EventLines.{LineResults, is_event_line, results_of}
 use Rattle.gw_report.specs.RunText.{has_refused}
 

@@ -10,7 +10,7 @@ use Rattle.gw_status.specs.StatusText.{statuses_text}
 use Rattle.gw_frames.specs.model.Requests.{Request}
 use Rattle.gw_rows.specs.model.DoorRows.{rows_of}
 use Rattle.gw_decide.specs.ExplainText.{explain_text}
-use Rattle.gw_report.specs.Lines.{lines_of}
+use Rattle.gw_store.specs.Lines.{lines_of}
 use Rattle.gw_report.specs.EventLines.{Refused, LineResults, results_of}
 
 -- How a refused line is printed, with the path of the field that it names.

@@ -3,14 +3,12 @@
 #![tactic(auto)]
 
 mod explanation;
-mod lines;
 mod output;
 mod print;
 mod report;
 mod status;
 
 pub use explanation::explanation_output;
-pub use lines::{first_line, is_blank};
 pub use output::Output;
 pub use print::refused_value;
 pub use status::status_output;

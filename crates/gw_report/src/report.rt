@@ -4,14 +4,13 @@ ghost use Rattle.gw_text.specs.model.World.{is_full, apply};
 ghost use Rattle.gw_link.specs.declared.source.TheConstants.{MOST_INPUT};
 ghost use Rattle.gw_store.specs.Events.{a_change, answer, taken};
 ghost use Rattle.gw_store.specs.SeenEvents.{seen_event};
-ghost use Rattle.gw_report.specs.Lines.{lines_of, lines_left};
+ghost use Rattle.gw_store.specs.Lines.{lines_of, lines_left};
 ghost use Rattle.gw_report.specs.Reports.{Applies, IsReport, Takes, Refuses};
 
-use crate::lines::{first_line, is_blank};
 use crate::print::refused_value;
 use gw_json::{Path, Refusal, push_line};
 use gw_link::{Clock, MOST_INPUT};
-use gw_store::{Event, Read, World, read_event};
+use gw_store::{Event, Read, World, first_line, is_blank, read_event};
 use gw_text::{NoMemory, Second};
 use std::alloc::Global;
 

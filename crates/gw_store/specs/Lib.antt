@@ -2,6 +2,8 @@ pub mod ByService
 pub mod Changes
 pub mod Events
 pub mod EventTypes
+pub mod Lines
 pub mod SeenEvents
 pub mod Stores
 pub mod Table
+pub mod Trials

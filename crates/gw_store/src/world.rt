@@ -1,20 +1,23 @@
-ghost use Rattle.std.specs.Prelude.{◌≡◌, ◌↔◌, ◌<◌, false, nat_le, IsOk, IfOk, IfSome, IfErr, OnOk, filter, length, map, option_copied};
+ghost use Rattle.std.specs.Prelude.{◌≡◌, ◌↔◌, ◌<◌, Some, false, nat_le, IsOk, IfOk, IfSome, IfErr, OnOk, filter, length, map, option_copied, option_map};
 ghost use Rattle.gw_text.specs.model.Names.{cluster_key};
 ghost use Rattle.gw_text.specs.model.References.{is_slice_of};
 ghost use Rattle.gw_text.specs.model.Stored.{stored_at, objects_of, IsInKeyOrder};
 ghost use Rattle.gw_text.specs.model.World as worlds;
 ghost use Rattle.gw_store.specs.SeenEvents.{seen_object, seen_event};
+ghost use Rattle.gw_store.specs.Stores.{least};
 ghost use Rattle.gw_store.specs.Table.{IsPlaceOf, at_place};
+ghost use Rattle.gw_store.specs.Trials.{IsLeft, put_by, restored};
 
 use crate::event::{Event, Object};
-use crate::slices::Slices;
-use crate::table::Table;
+use crate::slices::{DisplacedSlice, Slices};
+use crate::table::{Displaced, Table};
 use gw_json::Refusal;
 use gw_objects::{EndpointSlice, Gateway, GatewayClass, Namespace, ReferenceGrant, Service};
 use gw_route::HttpRoute;
 use gw_text::{Key, Kind, NoMemory, Second, Stored, Text};
 use std::alloc::Global;
 use std::marker::Model;
+use std::snapshot::Snapshot;
 
 /// The most objects that are held.
 pub const MOST_OBJECTS: usize = 65_536;
@@ -23,7 +26,6 @@ pub const MOST_OBJECTS: usize = 65_536;
 pub const MOST_ROUTES: usize = 16_384;
 
 /// The objects that are held, kind by kind, and the number of the changes that led here.
-#[derive(Drop)]
 pub struct World {
     classes: Table<GatewayClass>,
     gateways: Table<Gateway>,
@@ -35,8 +37,23 @@ pub struct World {
     changes: u64,
 }
 
+// Written out, so that crates above don't prove anew how each object is dropped.
+impl Drop for World {
+    fn drop(self) {
+        let World {
+            classes: _,
+            gateways: _,
+            routes: _,
+            grants: _,
+            namespaces: _,
+            services: _,
+            slices: _,
+            changes: _,
+        } = self;
+    }
+}
+
 impl Model for World {
-    ghost use Rattle.std.specs.Prelude.{min};
     ghost use Rattle.gw_store.specs.Stores.{Store};
 
     ghost Value = { Store };
@@ -52,8 +69,53 @@ impl Model for World {
         slices = w.slices.stored;
         changes = w.changes;
       };
-      spare = min w.classes.spare (min w.gateways.spare (min w.routes.spare (min w.grants.spare (min w.namespaces.spare (min w.services.spare (min w.slices.spare w.slices.index.spare))))));
+      rooms = record {
+        classes = w.classes.spare;
+        gateways = w.gateways.spare;
+        routes = w.routes.spare;
+        grants = w.grants.spare;
+        namespaces = w.namespaces.spare;
+        services = w.services.spare;
+        slices = w.slices.spare;
+        by_service = w.slices.index.spare;
+      };
+      by_service = w.slices.index.slices;
     } };
+}
+
+/// What undoes a change of the objects of one kind.
+#[derive(Drop)]
+enum Undo {
+    GatewayClass(Displaced<GatewayClass>),
+    Gateway(Displaced<Gateway>),
+    HttpRoute(Displaced<HttpRoute>),
+    ReferenceGrant(Displaced<ReferenceGrant>),
+    Namespace(Displaced<Namespace>),
+    Service(Displaced<Service>),
+    EndpointSlice(DisplacedSlice),
+}
+
+/// A change of a world that may be undone.
+#[derive(Drop)]
+pub struct Trial {
+    undo: Undo,
+    /// The kind and key that it removed, if it is a removal.
+    removed: Option<(Kind, Key)>,
+    event: Snapshot<Event>,
+    before: Snapshot<World>,
+    after: Snapshot<World>,
+}
+
+impl Model for Trial {
+    ghost use Rattle.gw_store.specs.SeenEvents.{seen_event};
+    ghost use Rattle.gw_store.specs.Stores.{Tried};
+    ghost use Rattle.gw_store.specs.Trials.{IsTrial};
+
+    ghost Value = { Tried };
+
+    ghost view = { λ t. record { before = t.before.value; after = t.after.value; event = seen_event t.event.value } };
+
+    ghost invariant = { λ t. IsTrial t.undo t.removed (seen_event t.event.value) t.before.value t.after.value };
 }
 
 impl World {
@@ -140,7 +202,8 @@ impl World {
     /// Makes room for one object more of each kind.
     pub fn reserve(&mut self) -> Result<(), NoMemory>
         ensures world { self.new.world ≡ self.old.world }
-        ensures ok { OnOk result (0 < self.new.spare) }
+        ensures by_service { self.new.by_service ≡ self.old.by_service }
+        ensures ok { OnOk result (0 < least self.new.rooms) }
     {
         self.classes.reserve()?;
         self.gateways.reserve()?;
@@ -152,45 +215,107 @@ impl World {
     }
 
     /// Does what the event says.
-    #[tactic(auto, unfolding(gw_text::specs::model::World::is_full))]
     pub fn put(&mut self, event: Event, at: Second)
-        requires room { 0 < self.old.spare }
+        requires room { 0 < least self.old.rooms }
         requires check { worlds.is_full self.old.world (seen_event event) ≡ false }
         ensures { self.new.world ≡ worlds.apply self.old.world (record { event = seen_event event; at = at }) }
     {
-        match event {
-            Event::Put(object) => self.put_object(object, at),
-            Event::Remove(kind, key) => self.remove(kind, &key),
-        }
-        self.changes += 1;
+        self.trial(event, at);
     }
 
-    fn put_object(&mut self, object: Object, at: Second)
-        requires { 0 < self.old.spare }
-        ensures { self.new.world ≡ worlds.put_object self.old.world (seen_object object) at }
+    /// Does what the event says, until it is undone. Takes no memory.
+    #[tactic(auto, unfolding(gw_text::specs::model::World::is_full))]
+    pub fn trial(&mut self, event: Event, at: Second) -> Trial
+        requires room { 0 < least self.old.rooms }
+        requires check { worlds.is_full self.old.world (seen_event event) ≡ false }
+        ensures world { self.new.world ≡ worlds.apply self.old.world (record { event = seen_event event; at = at }) }
+        ensures trial { result ≡ record { before = self.old; after = self.new; event = seen_event event } }
+    {
+        let before = Snapshot::of(self);
+        let seen = Snapshot::of(&event);
+        let (undo, removed) = match event {
+            Event::Put(object) => (self.put_object(object, at), None),
+            Event::Remove(kind, key) => (self.remove(kind, &key), Some((kind, key))),
+        };
+        self.changes += 1;
+        Trial {
+            undo,
+            removed,
+            event: seen,
+            before,
+            after: Snapshot::of(self),
+        }
+    }
+
+    /// Undoes a trial, and hands its event back. Takes no memory.
+    pub fn back(&mut self, trial: Trial) -> Event
+        requires { self.old ≡ trial.after }
+        ensures world { self.new ≡ trial.before }
+        ensures event { seen_event result ≡ trial.event }
+    {
+        let Trial {
+            undo,
+            removed,
+            event: _,
+            before: _,
+            after: _,
+        } = trial;
+        self.changes -= 1;
+        let put = self.undo(undo);
+        match removed {
+            Some((kind, key)) => Event::Remove(kind, key),
+            None => Event::Put(put.unwrap()),
+        }
+    }
+
+    fn put_object(&mut self, object: Object, at: Second) -> Undo
+        requires { 0 < least self.old.rooms }
+        ensures world { self.new.world ≡ worlds.put_object self.old.world (seen_object object) at }
+        ensures left { IsLeft result self.new }
+        ensures restored { restored result self.new ≡ self.old }
+        ensures put { put_by result ≡ Some (seen_object object) }
     {
         match object {
-            Object::GatewayClass(class) => drop(self.classes.put(class, at)),
-            Object::Gateway(gateway) => drop(self.gateways.put(gateway, at)),
-            Object::HttpRoute(route) => drop(self.routes.put(route, at)),
-            Object::ReferenceGrant(grant) => drop(self.grants.put(grant, at)),
-            Object::Namespace(namespace) => drop(self.namespaces.put(namespace, at)),
-            Object::Service(service) => drop(self.services.put(service, at)),
-            Object::EndpointSlice(slice) => drop(self.slices.put(slice, at)),
+            Object::GatewayClass(class) => Undo::GatewayClass(self.classes.put(class, at)),
+            Object::Gateway(gateway) => Undo::Gateway(self.gateways.put(gateway, at)),
+            Object::HttpRoute(route) => Undo::HttpRoute(self.routes.put(route, at)),
+            Object::ReferenceGrant(grant) => Undo::ReferenceGrant(self.grants.put(grant, at)),
+            Object::Namespace(namespace) => Undo::Namespace(self.namespaces.put(namespace, at)),
+            Object::Service(service) => Undo::Service(self.services.put(service, at)),
+            Object::EndpointSlice(slice) => Undo::EndpointSlice(self.slices.put(slice, at)),
         }
     }
 
-    fn remove(&mut self, kind: Kind, key: &Key)
-        ensures { self.new.world ≡ worlds.remove_key self.old.world kind key.now }
+    fn remove(&mut self, kind: Kind, key: &Key) -> Undo
+        ensures world { self.new.world ≡ worlds.remove_key self.old.world kind key.now }
+        ensures left { IsLeft result self.new }
+        ensures restored { restored result self.new ≡ self.old }
     {
         match kind {
-            Kind::GatewayClass => drop(self.classes.remove(key)),
-            Kind::Gateway => drop(self.gateways.remove(key)),
-            Kind::HttpRoute => drop(self.routes.remove(key)),
-            Kind::ReferenceGrant => drop(self.grants.remove(key)),
-            Kind::Namespace => drop(self.namespaces.remove(key)),
-            Kind::Service => drop(self.services.remove(key)),
-            Kind::EndpointSlice => drop(self.slices.remove(key)),
+            Kind::GatewayClass => Undo::GatewayClass(self.classes.remove(key)),
+            Kind::Gateway => Undo::Gateway(self.gateways.remove(key)),
+            Kind::HttpRoute => Undo::HttpRoute(self.routes.remove(key)),
+            Kind::ReferenceGrant => Undo::ReferenceGrant(self.grants.remove(key)),
+            Kind::Namespace => Undo::Namespace(self.namespaces.remove(key)),
+            Kind::Service => Undo::Service(self.services.remove(key)),
+            Kind::EndpointSlice => Undo::EndpointSlice(self.slices.remove(key)),
+        }
+    }
+
+    // Undoes the last change of the objects of one kind: the object that it put.
+    fn undo(&mut self, undo: Undo) -> Option<Object>
+        requires { IsLeft undo self.old }
+        ensures world { self.new ≡ restored undo self.old }
+        ensures put { option_map seen_object result ≡ put_by undo }
+    {
+        match undo {
+            Undo::GatewayClass(class) => Some(Object::GatewayClass(self.classes.undo(class)?)),
+            Undo::Gateway(gateway) => Some(Object::Gateway(self.gateways.undo(gateway)?)),
+            Undo::HttpRoute(route) => Some(Object::HttpRoute(self.routes.undo(route)?)),
+            Undo::ReferenceGrant(grant) => Some(Object::ReferenceGrant(self.grants.undo(grant)?)),
+            Undo::Namespace(namespace) => Some(Object::Namespace(self.namespaces.undo(namespace)?)),
+            Undo::Service(service) => Some(Object::Service(self.services.undo(service)?)),
+            Undo::EndpointSlice(slice) => Some(Object::EndpointSlice(self.slices.undo(slice)?)),
         }
     }
 

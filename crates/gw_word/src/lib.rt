@@ -5,4 +5,4 @@ mod number;
 mod quoted;
 
 pub use number::number_below;
-pub use quoted::quoted_bytes;
+pub use quoted::{bytes_in, quoted_bytes};

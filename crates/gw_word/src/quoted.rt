@@ -36,7 +36,8 @@ fn json(alloc: Global, word: &str) -> Result<Option<Value>, NoMemory>
     }
 }
 
-fn bytes_in(alloc: Global, text: &str) -> Result<Option<Vec<u8>>, NoMemory>
+/// The bytes for which the characters of a text stand, each by its number, where none is above U+00FF.
+pub fn bytes_in(alloc: Global, text: &str) -> Result<Option<Vec<u8>>, NoMemory>
     ensures { IfOk result (λ bytes. option_map (λ v. v.items) bytes ≡ quoted.bytes_in (chars text.now)) }
 {
     let mut bytes = Vec::new(alloc);

@@ -1,5 +1,5 @@
 -- What a worker decides.
-use Rattle.std.proofs.Common.{◌≡◌, ℕ, List, [], false, Option, Some, None, ap, refl, sym, subst, ◌∙◌, inl, inr, append-nil, get_or, option_map}
+use Rattle.std.proofs.Common.{◌≡◌, ℕ, List, false, Option, Some, None, ap, refl, sym, subst, ◌∙◌, inl, inr, get_or, option_map}
 use Rattle.std.specs.Option.{option_map_or}
 use Rattle.std.proofs.Math.Logic.{∥∥₁_elim}
 use Rattle.std.specs.Coded.{Coded, Coded-set, codes}
@@ -15,14 +15,14 @@ use Rattle.gw_frames.specs.model.Requests.{Request}
 use Rattle.gw_replies.specs.declared.fault.FaultName.{FaultName}
 use Rattle.gw_replies.specs.declared.fault.FaultName.TheVariants.{NoBackend}
 use Rattle.gw_rows.specs.model.Rows.{Row, Rows}
-use Rattle.gw_snap.specs.Lists.{BeginsWith}
+use Rattle.gw_snapshots.specs.Lists.{Book}
 use Rattle.gw_text.specs.model.Addresses.{Socket}
 use Rattle.gw_text.specs.model.Filters.{Redirect}
 use Rattle.gw_text.specs.model.Plans.{Backend}
 use Rattle.gw_text.specs.model.References.{BackendState, invalid_kind, not_permitted, not_found as no_service, bad_protocol, no_endpoints, ready}
 use Rattle.gw_worker.specs.Exchanges.{is_call_fault}
 use Rattle.gw_worker.specs.Workers.{Decides, IsLeftBy, handled_by}
-use Rattle.gw_worker.specs.declared.worker.Worker.{Worker}
+use Rattle.gw_worker.specs.model.Workers.{Pass, Worker}
 use Rattle.gw_worker.specs.model.Sessions.{Place, no_rows, rows_after}
 
 coded_rows : Coded Rows
@@ -44,19 +44,22 @@ table_is t table door p seen before after stands is value fixed doors controller
     (ap (λ (x : List Door × List ℕ). x.0) (value ∙ fixed) ∙ doors)
     (ap (λ (x : List Door × List ℕ). x.1) (value ∙ fixed) ∙ controller)
 
--- what began with a list begins with it
-pub begins_itself : {C : Type 0} (list : List C) → BeginsWith list list
-begins_itself list = ([], sym (append-nil list))
+-- a pass that reads, or may have been refused
+pub only_read : (a b : Pass) → b.fixed ≡ a.fixed → b.book ≡ a.book → b.ahead ≡ a.ahead → b ≡ record a { seen = b.seen; refused = b.refused }
+only_read a b fixed book ahead =
+    ap (λ (f : List Door × List ℕ). record b { fixed = f }) fixed
+    ∙ ap (λ (k : Book). record b { fixed = a.fixed; book = k }) book
+    ∙ ap (λ (n : ℕ). record b { fixed = a.fixed; book = a.book; ahead = n }) ahead
 
--- a request that wasn't decided changed nothing
-pub left_alone : (p : Place) (w : Worker) (q : Request) → IsLeftBy p w w q
-left_alone p w q = record { later = begins_itself w.pass.seen; fixed = refl; books = record { backends = inl refl; endpoints = inl refl } }
+pub only_seen : (a b : Pass) → b.fixed ≡ a.fixed → b.book ≡ a.book → b.ahead ≡ a.ahead → b.refused ≡ a.refused → b ≡ record a { seen = b.seen }
+only_seen a b fixed book ahead refused =
+    only_read a b fixed book ahead ∙ ap (λ (n : ℕ). record a { seen = b.seen; refused = n }) refused
 
 -- a request was decided, and nothing came of it
 pub left_behind : (p : Place) (before after : Worker) (q : Request) → Decides p before after q (handled_by before after) → IsLeftBy p before after q
 left_behind p before after q d = record {
+  pass = d.pass ∙ ap (λ (n : ℕ). record before.pass { seen = after.pass.seen; refused = n }) (sym (ap (λ (s : Pass). s.refused) d.pass));
   later = d.later;
-  fixed = d.fixed;
   books = subst (λ (b : Books). AreLeft before.books b after.books) d.counted (record { backends = inr (inl refl); endpoints = inr (inl refl) });
 }
 

@@ -4,7 +4,7 @@ use Rattle.gw_frames.specs.Inlets.{StandsFor as InletStandsFor}
 use Rattle.gw_link.proofs.PieceLemmas.{Takes-more}
 use Rattle.gw_link.specs.Exchanges.{Exchange}
 use Rattle.gw_link.specs.declared.order.UpstreamCall.{UpstreamCall}
-use Rattle.gw_snap.specs.Lists.{BeginsWith}
+use Rattle.gw_snapshots.specs.Lists.{BeginsWith}
 use Rattle.gw_worker.proofs.Counts.{faults_append, risen_then}
 use Rattle.gw_worker.proofs.Exchanging.{refused_then}
 use Rattle.gw_worker.proofs.Parts.{decided_append, exchanged_append, rows_append}
@@ -16,7 +16,7 @@ use Rattle.gw_text.specs.model.Doors.{Door}
 use Rattle.gw_worker.specs.Workers.{IsAt}
 use Rattle.gw_worker.specs.declared.conn.Conn.{Conn}
 use Rattle.gw_worker.specs.declared.serve.Flow.{Flow}
-use Rattle.gw_worker.specs.declared.worker.Worker.{Worker}
+use Rattle.gw_worker.specs.model.Workers.{Worker}
 use Rattle.gw_worker.specs.model.Sessions.{Part, Place, rows_of, step_of, written}
 
 pub tells_then : (a b c : Option (List Exchange)) (xs ys : List Exchange) → TellsAll a xs b → TellsAll b ys c → TellsAll a (xs ++ ys) c
@@ -126,6 +126,3 @@ still_at p a b fixed at = record {
   doors = ap (λ (f : List Door × List ℕ). f.0) fixed ∙ at.doors;
   controller = ap (λ (f : List Door × List ℕ). f.1) fixed ∙ at.controller;
 }
-
-pub begins_then : {C : Type 0} (a b c : List C) → BeginsWith a b → BeginsWith b c → BeginsWith a c
-begins_then {C = C} a b c first second = (first.0 ++ second.0, second.1 ∙ ap (λ (l : List C). l ++ second.0) first.1 ∙ append_assoc a first.0 second.0)

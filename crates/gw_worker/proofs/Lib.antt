@@ -8,3 +8,4 @@ mod Stepping
 mod Exchanging
 pub mod Turning
 pub mod Linking
+mod Nexts

@@ -11,9 +11,9 @@ use Rattle.gw_text.specs.model.Addresses.{Socket}
 use Rattle.gw_worker.specs.declared.serve.TheConstants.{MOST_PIECE}
 use Rattle.gw_link.specs.Pieces.{Gives, IsAtEnd, Keeps, Takes}
 use Rattle.gw_exchange.proofs.Receiving.{empty_of}
+use Rattle.gw_lists.proofs.Beginnings.{begins_with-self}
 use Rattle.std.proofs.lemmas.List.{length-take-le}
 use Rattle.gw_worker.specs.declared.serve.Flow.TheVariants as flows
-use Rattle.gw_worker.proofs.Deciding.{begins_itself}
 use Rattle.gw_worker.proofs.Going.{served_then, took_and_broke, took_then}
 use Rattle.gw_worker.proofs.Turning.{settled, took_none}
 use Rattle.gw_worker.specs.Conns.{AreServed, IsFed, IsSettled, Serves, StandsFor}
@@ -23,7 +23,7 @@ use Rattle.gw_worker.specs.Links.{HasBroken, HasServed, Ran, Stopped}
 use Rattle.gw_worker.specs.declared.conn.Conn.{Conn}
 use Rattle.gw_worker.specs.declared.conn.Stage.{Stage}
 use Rattle.gw_worker.specs.declared.conn.Stage.TheVariants.{Reading, Asking, Answered, Ended as IsEnded}
-use Rattle.gw_worker.specs.declared.worker.Worker.{Worker}
+use Rattle.gw_worker.specs.model.Workers.{Worker}
 use Rattle.gw_worker.specs.model.Sessions.{Part, Place, step_of}
 
 -- what was written stays so
@@ -67,7 +67,7 @@ broke_settled refuses p a b c bytes parts text o o' t is =
       middle = b;
       fed = bytes;
       steps = [];
-      begins = begins_itself bytes;
+      begins = begins_with-self bytes;
       inlet = subst (λ (l : List Step). InletStandsFor c.inlet bytes l) (sym (append-nil (map step_of (parts ++ t.more)))) t.stands.inlet;
       rows_are = served.rows_are;
       whole = served.whole;

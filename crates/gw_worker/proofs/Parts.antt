@@ -9,7 +9,7 @@ use Rattle.gw_replies.specs.model.Written.{own}
 use Rattle.gw_worker.specs.Conns.{AreWhole, IsReplied}
 use Rattle.gw_worker.specs.Exchanges.{Exchanged}
 use Rattle.gw_worker.specs.Workers.{Decided}
-use Rattle.gw_worker.specs.declared.worker.Worker.{Worker}
+use Rattle.gw_worker.specs.model.Workers.{Worker}
 use Rattle.gw_worker.specs.model.Sessions.{Answer, Part, Place, a_close, a_cut, a_refused, a_request, a_wait, asks_behind, continue_text, decision_at, is_last, reply_by, row_by, row_of, rows_of, step_of, written_behind}
 
 pub steps_append : (xs ys : List Part) → map step_of (xs ++ ys) ≡ map step_of xs ++ map step_of ys

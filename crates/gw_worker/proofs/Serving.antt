@@ -19,7 +19,7 @@ use Rattle.gw_worker.specs.Conns.{AreServed, IsAsking, IsOpen, IsReplied, IsWhol
 use Rattle.gw_worker.specs.Steps.{Came, IsReady}
 use Rattle.gw_worker.specs.Turns.{AreUnanswered, Continues, Says, text_of}
 use Rattle.gw_worker.specs.Workers.{Decided, Decides}
-use Rattle.gw_worker.specs.declared.worker.Worker.{Worker}
+use Rattle.gw_worker.specs.model.Workers.{Worker}
 use Rattle.gw_worker.specs.declared.conn.Asked.{Asked}
 use Rattle.gw_worker.specs.declared.conn.Conn.{Conn}
 use Rattle.gw_worker.specs.declared.conn.Stage.{Stage}

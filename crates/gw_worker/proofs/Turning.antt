@@ -17,7 +17,7 @@ use Rattle.gw_link.specs.Pieces.{Takes, TakesPart}
 use Rattle.gw_link.specs.declared.order.UpstreamCall.{UpstreamCall}
 use Rattle.gw_text.specs.model.Addresses.{Socket}
 use Rattle.gw_text.specs.model.Plans.{Plan}
-use Rattle.gw_worker.proofs.Deciding.{begins_itself, left_behind, own_fault}
+use Rattle.gw_worker.proofs.Deciding.{left_behind, own_fault}
 use Rattle.gw_worker.proofs.Exchanging.{AtMostOne, at_most_one}
 use Rattle.gw_worker.proofs.Counts.{faults_append}
 use Rattle.gw_worker.proofs.Parts.{rows_append, steps_append}
@@ -30,12 +30,13 @@ use Rattle.gw_worker.specs.declared.conn.Conn.{Conn}
 use Rattle.gw_worker.specs.declared.conn.Stage.{Stage}
 use Rattle.gw_worker.specs.declared.conn.Stage.TheVariants.{Reading, Asking, Answered, Ended as IsEnded}
 use Rattle.gw_frames.specs.declared.ended.Ended.{Ended}
-use Rattle.gw_snap.specs.Lists.{BeginsWith}
+use Rattle.gw_lists.proofs.Beginnings.{begins_with-self}
+use Rattle.gw_snapshots.specs.Lists.{BeginsWith}
 use Rattle.gw_store.specs.declared.event.Entry.{Entry}
 use Rattle.gw_worker.specs.declared.serve.Flow.TheVariants as flows
 use Rattle.gw_worker.specs.declared.conn.Turn.{Turn}
 use Rattle.gw_worker.specs.declared.conn.Turn.TheVariants as turns
-use Rattle.gw_worker.specs.declared.worker.Worker.{Worker}
+use Rattle.gw_worker.specs.model.Workers.{Pass, Worker}
 use Rattle.gw_worker.specs.model.Sessions.{Answer, Handled, Part, Place, a_close, a_cut, a_refused, a_request, a_wait, decision_at, row_by, row_of, rows_after, rows_of, step_of, written}
 
 pub tells_itself : (told : Option (List Exchange)) → TellsAll told [] told
@@ -179,7 +180,7 @@ answered_refused refuses p a b more to sent head answer k refused =
 answered_decided : (p : Place) (a b : Worker) (more : List Part) (to : Socket) (sent : List ℕ) (head : Bool) (answer : Answer) → (k : Asks p a b more to sent head)
     → Decided p a b (a_request k.request (record k.handled { answer = Some answer }) ∷ [])
 answered_decided p a b more to sent head answer k =
-    (b, (record { seen = k.decides.seen; later = k.decides.later; fixed = k.decides.fixed; books = k.decides.books; counted = k.decides.counted }, refl))
+    (b, (record { pass = k.decides.pass; later = k.decides.later; books = k.decides.books; counted = k.decides.counted }, refl))
 
 answered_faults : (p : Place) (a b : Worker) (more : List Part) (to : Socket) (sent : List ℕ) (head : Bool) (answer : Answer) (f f' : ℕ) → (k : Asks p a b more to sent head)
     → f ≤ f' → (IsTrue (is_call_fault (fault_of answer)) → HasRisen f f')
@@ -241,7 +242,7 @@ broke_before refuses p a b c d bytes parts text o s is rows stuck =
       middle = a;
       fed = bytes;
       steps = stuck.steps;
-      begins = begins_itself bytes;
+      begins = begins_with-self bytes;
       inlet = subst (λ (l : List Part). InletStandsFor d.inlet bytes (map step_of l ++ stuck.steps)) same stuck.inlet;
       rows_are = rows ∙ served.rows_are ∙ ap (rows_of p) same;
       whole = subst (AreWhole p) same served.whole;
@@ -273,7 +274,7 @@ broke_written refuses p a b d bytes parts more text reply met told told' x x' f 
       middle = b;
       fed = bytes;
       steps = [];
-      begins = begins_itself bytes;
+      begins = begins_with-self bytes;
       inlet = subst (λ (l : List Step). InletStandsFor d.inlet bytes l) (sym (append-nil (map step_of (parts ++ more)))) s.inlet;
       rows_are = served.rows_are;
       whole = served.whole;
@@ -293,23 +294,27 @@ broke_write refuses p a b c bytes parts text reply told told' x f k is part =
     broke_written refuses p a b c bytes parts k.more text reply [] told told' x x f f k.stands is k.decided (own_exchanged p k.more k.unanswered) (own_refused refuses p k.more k.unanswered) part (tells_itself x)
     (inl (omega (arith, own_faults p k.more k.unanswered)))
 
+seen_asked : (p : Place) (a b : Worker) (more : List Part) (to : Socket) (sent : List ℕ) (head : Bool) → (k : Asks p a b more to sent head) → b.pass.seen ≡ k.handled.changes
+seen_asked p a b more to sent head k = ap (λ (s : Pass). s.seen) k.decides.pass
+
 -- how the request for which a backend is asked was decided
 decided_asked : (p : Place) (a b : Worker) (more : List Part) (to : Socket) (sent : List ℕ) (head : Bool) → (k : Asks p a b more to sent head)
     → Decides p a b k.request (handled_by a b)
-decided_asked p a b more to sent head k = record {
-  seen = refl;
-  later = subst (BeginsWith a.pass.seen) (sym k.decides.seen) k.decides.later;
-  fixed = k.decides.fixed;
-  books = refl;
-  counted = k.decides.counted
-      ∙ ap (λ (l : List Entry). books_after (rows_after p l) k.request k.handled.books) (sym k.decides.seen)
-      ∙ ap (books_after (rows_after p b.pass.seen) k.request) k.decides.books;
-}
+decided_asked p a b more to sent head k =
+    let seen : k.handled.changes ≡ b.pass.seen = sym (seen_asked p a b more to sent head k) in
+    record {
+      pass = k.decides.pass ∙ ap (λ (l : List Entry). record a.pass { seen = l }) seen;
+      later = subst (BeginsWith a.pass.seen) seen k.decides.later;
+      books = refl;
+      counted = k.decides.counted
+          ∙ ap (λ (l : List Entry). books_after (rows_after p l) k.request k.handled.books) seen
+          ∙ ap (books_after (rows_after p b.pass.seen) k.request) k.decides.books;
+    }
 
 action_asked : (p : Place) (a b : Worker) (more : List Part) (to : Socket) (sent : List ℕ) (head : Bool) → (k : Asks p a b more to sent head)
     → (decision_at p k.request (handled_by a b)).action ≡ forwards to sent k.plan
 action_asked p a b more to sent head k =
-    ap (λ (l : List Entry). (decision_of (rows_after p l) k.request a.books).action) k.decides.seen
+    ap (λ (l : List Entry). (decision_of (rows_after p l) k.request a.books).action) (seen_asked p a b more to sent head k)
     ∙ ap (λ (books : Books). (decision_of (rows_after p k.handled.changes) k.request books).action) (sym k.decides.books)
     ∙ k.action
 
@@ -372,7 +377,7 @@ broke_asked refuses p a b c d e bytes parts text to sent head met told told' x x
       middle = a;
       fed = bytes;
       steps = an_ask q.request ∷ [];
-      begins = begins_itself bytes;
+      begins = begins_with-self bytes;
       inlet = subst (λ (i : Inlet). InletStandsFor i bytes (map step_of (parts ++ []) ++ an_ask q.request ∷ [])) (sym inlet)
           (subst (λ (l : List Step). InletStandsFor d.inlet bytes l)
           (steps_append parts k.more ∙ ap (λ (l : List Part). map step_of parts ++ map step_of l) q.parts_are

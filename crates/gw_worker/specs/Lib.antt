@@ -2,7 +2,9 @@ pub mod Conns
 pub mod Exchanges
 pub mod Faults
 pub mod Flows
+pub mod Lending
 pub mod Links
+pub mod Nexts
 pub mod Steps
 pub mod Turns
 pub mod Workers

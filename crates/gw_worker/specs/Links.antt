@@ -9,7 +9,7 @@ use Rattle.gw_link.specs.Exchanges.{Exchange}
 use Rattle.gw_link.specs.declared.order.UpstreamCall.{UpstreamCall}
 use Rattle.gw_message_laws.specs.declared.requests.TheConstants.{MOST_OPEN_BYTES}
 use Rattle.gw_link.specs.Pieces.{Gives, IsAtEnd, Takes}
-use Rattle.gw_snap.specs.Lists.{BeginsWith}
+use Rattle.gw_snapshots.specs.Lists.{BeginsWith}
 use Rattle.gw_worker.specs.Conns.{AreWhole, IsAllOf}
 use Rattle.gw_text.specs.model.Addresses.{Socket}
 use Rattle.gw_worker.specs.Exchanges.{AreRefused, Exchanged, HasRisenBy, TellsAll, call_faults}
@@ -18,7 +18,7 @@ use Rattle.gw_worker.specs.Workers.{Decided, IsLeftOpen}
 use Rattle.gw_worker.specs.declared.conn.Conn.{Conn}
 use Rattle.gw_worker.specs.declared.serve.TheConstants.{MOST_PIECE}
 use Rattle.gw_worker.specs.declared.serve.Flow.TheVariants as flows
-use Rattle.gw_worker.specs.declared.worker.Worker.{Worker}
+use Rattle.gw_worker.specs.model.Workers.{Worker}
 use Rattle.gw_worker.specs.model.Sessions.{Part, Place, rows_of, step_of, written}
 
 -- A connection is served by further bytes of the link until it ends; where the end needs that all bytes have come, nothing is left.

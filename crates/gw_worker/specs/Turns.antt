@@ -13,7 +13,7 @@ use Rattle.gw_worker.specs.declared.conn.Stage.{Stage}
 use Rattle.gw_worker.specs.declared.conn.Stage.TheVariants.{Reading, Asking, Answered, Ended as IsEnded}
 use Rattle.gw_worker.specs.declared.conn.Turn.{Turn}
 use Rattle.gw_worker.specs.declared.conn.Turn.TheVariants as turns
-use Rattle.gw_worker.specs.declared.worker.Worker.{Worker}
+use Rattle.gw_worker.specs.model.Workers.{Worker}
 use Rattle.gw_worker.specs.model.Sessions.{Handled, Part, Place, a_request, a_wait, a_refused, a_close, a_cut, decision_at, step_of}
 
 -- What a turn writes.

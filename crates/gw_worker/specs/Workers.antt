@@ -4,10 +4,10 @@ use Rattle.gw_answers.specs.Left.{AreLeft}
 use Rattle.gw_answers.specs.model.Decisions.{forwards}
 use Rattle.gw_frames.specs.model.Requests.{Request, Step, a_break, a_continue, a_refusal, an_ask, an_end}
 use Rattle.gw_link.specs.Exchanges.{Exchange}
-use Rattle.gw_snap.specs.Lists.{BeginsWith}
+use Rattle.gw_snapshots.specs.Lists.{BeginsWith}
 use Rattle.gw_text.specs.model.Addresses.{Socket}
 use Rattle.gw_text.specs.model.Plans.{Plan}
-use Rattle.gw_worker.specs.declared.worker.Worker.{Worker}
+use Rattle.gw_worker.specs.model.Workers.{Worker}
 use Rattle.gw_worker.specs.model.Sessions.{Handled, Part, Place, a_close, a_cut, a_refused, a_request, a_wait, books_at, decision_at}
 
 -- A worker's tables are those of the place.
@@ -19,11 +19,11 @@ pub record IsAt (w : Worker) (p : Place) : Type 0 where
 abbrev pub handled_by : Worker → Worker → Handled
 handled_by before after = record { changes = after.pass.seen; books = before.books; answer = None }
 
--- A worker decides one request: by what its pass has seen from now on, which begins with what it had seen.
+-- A worker decides one request: by what its pass has seen from now on, which begins with what it had seen. Of the pass nothing else
+-- changes.
 pub record Decides (p : Place) (before after : Worker) (q : Request) (h : Handled) : Type 0 where
-  pub seen : after.pass.seen ≡ h.changes
+  pub pass : after.pass ≡ record before.pass { seen = h.changes }
   pub later : BeginsWith before.pass.seen h.changes
-  pub fixed : after.pass.fixed ≡ before.pass.fixed
   pub books : h.books ≡ before.books
   pub counted : after.books ≡ books_at p q h
 
@@ -36,11 +36,11 @@ Decided p before after (a_refused code ∷ parts) = Decided p before after parts
 Decided p before after (a_close ∷ parts) = Decided p before after parts
 Decided p before after (a_cut ∷ parts) = Decided p before after parts
 
--- A worker whose request came to nothing: its pass has seen what it had seen, or more, and each of the books is as before, as that
--- request leaves it, or empty.
+-- A worker whose request came to nothing: its pass has seen what it had seen, or more, and may have been refused, and nothing else of it
+-- changes; each of the books is as before, as that request leaves it, or empty.
 pub record IsLeftBy (p : Place) (before after : Worker) (q : Request) : Type 0 where
+  pub pass : after.pass ≡ record before.pass { seen = after.pass.seen; refused = after.pass.refused }
   pub later : BeginsWith before.pass.seen after.pass.seen
-  pub fixed : after.pass.fixed ≡ before.pass.fixed
   pub books : AreLeft before.books (books_at p q (handled_by before after)) after.books
 
 -- A request was decided, and one exchange made for it, at the socket to which it goes: a front of its bytes was sent.

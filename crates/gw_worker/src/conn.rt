@@ -1,9 +1,10 @@
 //! A client's connection: what it does next, whatever carries its bytes.
-ghost use Rattle.std.specs.Prelude.{◌≡◌, ◌<◌, ◌∷◌, ◌++◌, [], ◌==◌, ℕ, List, false, length, None, Some, IfOk, OnOk, OnErr, ◌+◌, map};
+ghost use Rattle.std.specs.Prelude.{◌≡◌, ◌<◌, ◌∷◌, ◌++◌, [], ◌==◌, ℕ, List, false, length, None, Some, IfOk, IfErr, OnOk, OnErr, ◌+◌, map};
 ghost use Rattle.gw_frames.specs.Inlets.{is_over, StandsFor as InletStandsFor};
 ghost use Rattle.gw_frames.specs.model.Requests.{ended, an_ask, a_break, a_continue, a_refusal, an_end, Request as PlainRequest};
 ghost use Rattle.gw_link.specs.Exchanges.{change_last};
-ghost use Rattle.gw_snap.specs.Lists.{BeginsWith};
+ghost use Rattle.gw_snapshots.specs.Counts.{CountsPlace};
+ghost use Rattle.gw_snapshots.specs.Lists.{BeginsWith};
 ghost use Rattle.gw_worker.specs.Conns.{GoesOn, IsAnswered, IsAsking, IsFed, IsUnfinished, StandsFor, turns_left, with_answer, AreServed, StandsBehind};
 ghost use Rattle.gw_worker.specs.Turns.{Continues, IsBehind, IsReply, IsReplying, IsStuck, IsWrite, LeavesFewer, IsActive};
 ghost use Rattle.gw_worker.specs.Workers.{IsAt, IsLeftBy};
@@ -21,7 +22,7 @@ use gw_answers::{
 use gw_frames::{Ended, Inlet, Request, Step, end_behind};
 use gw_replies::{BackendFault, Response, write_own};
 use gw_rows::Plan;
-use gw_snap::OpenFault;
+use gw_snapshots::OpenFault;
 use gw_text::{List, NoMemory, Socket, Text};
 use std::alloc::Global;
 use std::mem;
@@ -143,6 +144,7 @@ impl Conn {
             → StandsFor self.old p bytes parts text → IsReply p self.new bytes parts text turn) }
         ensures writes { IsReplying self.old.stage → IfOk result IsWrite }
         ensures kept { IsReplying self.old.stage → (w.new ≡ w.old) × (self.new.inlet ≡ self.old.inlet) }
+        ensures place { IsReplying self.old.stage → result ≡ Err OpenFault.Place → ⊥ }
         ensures unfinished { result ≡ Ok Turn.Need → (bytes : List ℕ) → IsFed self.old bytes → IsUnfinished self.new bytes }
         ensures fewer { IfOk result (λ turn. (bytes : List ℕ) → IsFed self.old bytes → LeavesFewer turn (turns_left self.new) (turns_left self.old)) }
         ensures inlet { GoesOn self.old.inlet self.new.inlet }
@@ -152,10 +154,13 @@ impl Conn {
         ensures rows { OnErr result (self.new.rows ≡ self.old.rows) }
         ensures later { BeginsWith w.old.pass.seen w.new.pass.seen }
         ensures fixed { w.new.pass.fixed ≡ w.old.pass.fixed }
+        ensures book { w.new.pass.book ≡ w.old.pass.book }
 
-        // Only a publication that the worker learns of brings more changes.
-        ensures held { w.new.pass.seen ≡ w.old.pass.seen }
-        ensures place { result ≡ Err OpenFault.Place → ⊥ }
+        // A reading that was refused is counted, and nothing else is.
+        ensures ok { OnOk result (w.new.pass.refused ≡ w.old.pass.refused) }
+        ensures refused { IfErr result (λ e. CountsPlace e w.old.pass.refused w.new.pass.refused) }
+        ensures ahead { w.new.pass.ahead ≡ w.old.pass.ahead }
+
         ensures door { self.new.door ≡ self.old.door }
     {
         match mem::replace(&mut self.stage, Stage::Reading) {
@@ -222,8 +227,10 @@ impl Conn {
         ensures rows { OnErr result (self.new.rows ≡ self.old.rows) }
         ensures later { BeginsWith w.old.pass.seen w.new.pass.seen }
         ensures fixed { w.new.pass.fixed ≡ w.old.pass.fixed }
-        ensures held { w.new.pass.seen ≡ w.old.pass.seen }
-        ensures place { result ≡ Err OpenFault.Place → ⊥ }
+        ensures book { w.new.pass.book ≡ w.old.pass.book }
+        ensures ok { OnOk result (w.new.pass.refused ≡ w.old.pass.refused) }
+        ensures refused { IfErr result (λ e. CountsPlace e w.old.pass.refused w.new.pass.refused) }
+        ensures ahead { w.new.pass.ahead ≡ w.old.pass.ahead }
         ensures door { self.new.door ≡ self.old.door }
     {
         match self.inlet.next()? {
@@ -299,8 +306,10 @@ impl Conn {
         ensures rows { OnErr result (self.new.rows ≡ self.old.rows) }
         ensures later { BeginsWith w.old.pass.seen w.new.pass.seen }
         ensures fixed { w.new.pass.fixed ≡ w.old.pass.fixed }
-        ensures held { w.new.pass.seen ≡ w.old.pass.seen }
-        ensures place { result ≡ Err OpenFault.Place → ⊥ }
+        ensures book { w.new.pass.book ≡ w.old.pass.book }
+        ensures ok { OnOk result (w.new.pass.refused ≡ w.old.pass.refused) }
+        ensures refused { IfErr result (λ e. CountsPlace e w.old.pass.refused w.new.pass.refused) }
+        ensures ahead { w.new.pass.ahead ≡ w.old.pass.ahead }
         ensures door { self.new.door ≡ self.old.door }
     {
         let (front, decision) = w.decision(self.alloc, self.door, request)?;

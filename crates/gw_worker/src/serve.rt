@@ -2,8 +2,9 @@
 ghost use Rattle.std.specs.Prelude.{◌≡◌, ◌<◌, ◌≤◌, ℕ, List, length, take, IfOk, IfErr, OnOk, OnErr, ◌==◌, ◌++◌, ◌∷◌, [], false, None, Some};
 ghost use Rattle.gw_link.specs.Faults.{HasRisen};
 ghost use Rattle.gw_link.specs.Pieces.{Gives, IsAtEnd, Keeps, Takes, TakesPart};
-ghost use Rattle.gw_snap.specs.Lists.{BeginsWith};
+ghost use Rattle.gw_snapshots.specs.Lists.{BeginsWith};
 ghost use Rattle.gw_worker.specs.Conns.{IsServing, StandsFor, GoesOn, IsAsking, IsFed, IsSettled, IsUnfinished, turns_left, with_answer};
+ghost use Rattle.gw_worker.specs.Faults.{CountsRefused};
 ghost use Rattle.gw_worker.specs.Flows.{outside, BrokeOff, IsUnwritten, Meets, Replied, Served, TellsOne, TookTo};
 ghost use Rattle.gw_worker.specs.Links.{HasBroken, HasServed, Ran, Stopped};
 ghost use Rattle.gw_worker.specs.Workers.{IsAt};
@@ -19,7 +20,7 @@ use gw_exchange::{ExchangeFault, exchange};
 use gw_frames::Ended;
 use gw_link::{Link, Upstream, write_whole};
 use gw_replies::{BackendFault, Response};
-use gw_snap::OpenFault;
+use gw_snapshots::OpenFault;
 use gw_text::{List, NoMemory, Socket, Text};
 use std::alloc::Global;
 
@@ -105,16 +106,18 @@ pub fn serve_proxy<K: Link, U: Upstream>(
     // What a connection is given up by.
     ensures read { IfErr result (λ broken. broken.fault ≡ ConnFault.Read → HasRisen (K.faults link.old) (K.faults link.new)) }
     ensures write { IfErr result (λ broken. broken.fault ≡ ConnFault.Write → HasRisen (K.faults link.old) (K.faults link.new)) }
-    ensures place { IfErr result (λ broken. broken.fault ≡ ConnFault.Place → ⊥) }
+
+    // A reading that was refused is counted, and nothing else is.
+    ensures ok { OnOk result (w.new.pass.refused ≡ w.old.pass.refused) }
+    ensures refused { IfErr result (λ broken. CountsRefused broken.fault w.old.pass.refused w.new.pass.refused) }
+    ensures ahead { w.new.pass.ahead ≡ w.old.pass.ahead }
 
     ensures link_later { K.faults link.old ≤ K.faults link.new }
     ensures up_later { U.faults up.old ≤ U.faults up.new }
     ensures becomes { U.becomes up.old up.new }
     ensures later { BeginsWith w.old.pass.seen w.new.pass.seen }
     ensures fixed { w.new.pass.fixed ≡ w.old.pass.fixed }
-
-    // Only a publication that the worker learns of brings more changes.
-    ensures held { w.new.pass.seen ≡ w.old.pass.seen }
+    ensures book { w.new.pass.book ≡ w.old.pass.book }
 {
     let mut conn = Conn::new(alloc, door);
     match serve(&mut conn, w, link, up) {
@@ -146,13 +149,15 @@ fn serve<K: Link, U: Upstream>(
         (outside (K.written link.old) (U.exchanges up.old) (U.faults up.old)) (outside (K.written link.new) (U.exchanges up.new) (U.faults up.new))) }
     ensures read { result ≡ Err ConnFault.Read → HasRisen (K.faults link.old) (K.faults link.new) }
     ensures write { result ≡ Err ConnFault.Write → HasRisen (K.faults link.old) (K.faults link.new) }
-    ensures place { result ≡ Err ConnFault.Place → ⊥ }
+    ensures ok { OnOk result (w.new.pass.refused ≡ w.old.pass.refused) }
+    ensures refused { IfErr result (λ e. CountsRefused e w.old.pass.refused w.new.pass.refused) }
+    ensures ahead { w.new.pass.ahead ≡ w.old.pass.ahead }
     ensures link_later { K.faults link.old ≤ K.faults link.new }
     ensures up_later { U.faults up.old ≤ U.faults up.new }
     ensures becomes { U.becomes up.old up.new }
     ensures later { BeginsWith w.old.pass.seen w.new.pass.seen }
     ensures fixed { w.new.pass.fixed ≡ w.old.pass.fixed }
-    ensures held { w.new.pass.seen ≡ w.old.pass.seen }
+    ensures book { w.new.pass.book ≡ w.old.pass.book }
 {
     let mut buffer = [0; MOST_PIECE];
     let mut taken = 0;
@@ -195,7 +200,11 @@ impl Conn {
         // What a call is given up by.
         ensures write { result ≡ Err ConnFault.Write → HasRisen (K.faults link.old) (K.faults link.new) }
         ensures read { result ≡ Err ConnFault.Read → ⊥ }
-        ensures place { result ≡ Err ConnFault.Place → ⊥ }
+
+        // A reading that was refused is counted, and nothing else is.
+        ensures ok { OnOk result (w.new.pass.refused ≡ w.old.pass.refused) }
+        ensures refused { IfErr result (λ e. CountsRefused e w.old.pass.refused w.new.pass.refused) }
+        ensures ahead { w.new.pass.ahead ≡ w.old.pass.ahead }
 
         ensures unread { Keeps (K.left link.old) (K.left link.new) }
         ensures link_later { K.faults link.old ≤ K.faults link.new }
@@ -203,9 +212,7 @@ impl Conn {
         ensures becomes { U.becomes up.old up.new }
         ensures later { BeginsWith w.old.pass.seen w.new.pass.seen }
         ensures fixed { w.new.pass.fixed ≡ w.old.pass.fixed }
-
-        // Only a publication that the worker learns of brings more changes.
-        ensures held { w.new.pass.seen ≡ w.old.pass.seen }
+        ensures book { w.new.pass.book ≡ w.old.pass.book }
         ensures door { self.new.door ≡ self.old.door }
     {
         self.feed(piece)?;
@@ -234,14 +241,16 @@ impl Conn {
         ensures over { is_over self.new.inlet ≡ is_over self.old.inlet }
         ensures write { result ≡ Err ConnFault.Write → HasRisen (K.faults link.old) (K.faults link.new) }
         ensures read { result ≡ Err ConnFault.Read → ⊥ }
-        ensures place { result ≡ Err ConnFault.Place → ⊥ }
+        ensures ok { OnOk result (w.new.pass.refused ≡ w.old.pass.refused) }
+        ensures refused { IfErr result (λ e. CountsRefused e w.old.pass.refused w.new.pass.refused) }
+        ensures ahead { w.new.pass.ahead ≡ w.old.pass.ahead }
         ensures unread { Keeps (K.left link.old) (K.left link.new) }
         ensures link_later { K.faults link.old ≤ K.faults link.new }
         ensures up_later { U.faults up.old ≤ U.faults up.new }
         ensures becomes { U.becomes up.old up.new }
         ensures later { BeginsWith w.old.pass.seen w.new.pass.seen }
         ensures fixed { w.new.pass.fixed ≡ w.old.pass.fixed }
-        ensures held { w.new.pass.seen ≡ w.old.pass.seen }
+        ensures book { w.new.pass.book ≡ w.old.pass.book }
         ensures door { self.new.door ≡ self.old.door }
     {
         'turns: loop {
@@ -274,14 +283,16 @@ impl Conn {
         ensures over { is_over self.new.inlet ≡ is_over self.old.inlet }
         ensures write { result ≡ Err ConnFault.Write → HasRisen (K.faults link.old) (K.faults link.new) }
         ensures read { result ≡ Err ConnFault.Read → ⊥ }
-        ensures place { result ≡ Err ConnFault.Place → ⊥ }
+        ensures ok { OnOk result (w.new.pass.refused ≡ w.old.pass.refused) }
+        ensures refused { IfErr result (λ e. CountsRefused e w.old.pass.refused w.new.pass.refused) }
+        ensures ahead { w.new.pass.ahead ≡ w.old.pass.ahead }
         ensures unread { Keeps (K.left link.old) (K.left link.new) }
         ensures link_later { K.faults link.old ≤ K.faults link.new }
         ensures up_later { U.faults up.old ≤ U.faults up.new }
         ensures becomes { U.becomes up.old up.new }
         ensures later { BeginsWith w.old.pass.seen w.new.pass.seen }
         ensures fixed { w.new.pass.fixed ≡ w.old.pass.fixed }
-        ensures held { w.new.pass.seen ≡ w.old.pass.seen }
+        ensures book { w.new.pass.book ≡ w.old.pass.book }
         ensures door { self.new.door ≡ self.old.door }
     {
         match self.next(w)? {

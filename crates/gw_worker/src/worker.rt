@@ -1,20 +1,31 @@
 //! Who serves connections, by the list of changes that is published.
-ghost use Rattle.std.specs.Prelude.{◌≡◌, ◌<◌, ◌⊎◌, [], length, IfOk, OnOk, OnErr};
-ghost use Rattle.gw_snap.specs.Lists.{BeginsWith};
+ghost use Rattle.std.specs.Prelude.{◌≡◌, ◌<◌, ◌⊎◌, [], length, IfOk, IfErr, OnOk, OnErr};
+ghost use Rattle.std.specs.Borrow.{sem};
+ghost use Rattle.gw_snapshots.specs.Counts.{CountsPlace};
+ghost use Rattle.gw_snapshots.specs.Lists.{BeginsWith};
+ghost use Rattle.gw_worker.specs.Lending.{LendsPass};
 ghost use Rattle.gw_worker.specs.Workers.{Decides, handled_by, IsAt, IsLeftBy};
 ghost use Rattle.gw_worker.specs.model.Sessions.{decision_at, Place};
 
 use gw_answers::{Books, Decision};
 use gw_frames::Request;
 use gw_match::Tables;
-use gw_snap::{Note, OpenFault, Pass};
-use gw_text::NoMemory;
+use gw_snapshots::{Note, OpenFault, Pass};
 use std::alloc::Global;
+use std::marker::Model;
 
 /// Who serves connections, one after another or by turns: by what its pass sees, with its own picks.
 pub struct Worker {
     pub(crate) pass: Pass<Tables>,
     pub(crate) books: Books,
+}
+
+impl Model for Worker {
+    ghost use Rattle.gw_worker.specs.model.Workers.{Worker as Plain};
+
+    ghost Value = { Plain };
+
+    ghost view = { λ w. record { pass = w.pass; books = w.books } };
 }
 
 // Written out, so that crates above don't prove anew how its parts are dropped.
@@ -37,15 +48,29 @@ impl Worker {
     }
 
     /// Learns of a publication. Its pass has then seen the longer of the two lists.
-    pub fn learn(&mut self, note: &Note<Tables>) -> Result<(), NoMemory>
-        requires { BeginsWith self.old.pass.seen note.now.seen ⊎ BeginsWith note.now.seen self.old.pass.seen }
+    pub fn learn(&mut self, note: &mut Note<Tables>)
+        requires { note.old.book ≡ self.old.pass.book }
         ensures mine { BeginsWith self.old.pass.seen self.new.pass.seen }
-        ensures theirs { OnOk result (BeginsWith note.now.seen self.new.pass.seen) }
-        ensures one { (self.new.pass ≡ self.old.pass) ⊎ (self.new.pass ≡ note.now) }
+        ensures theirs { BeginsWith note.old.list self.new.pass.seen }
+        ensures one { (self.new.pass.seen ≡ self.old.pass.seen) ⊎ (self.new.pass.seen ≡ note.old.list) }
+
+        ensures fixed { self.new.pass.fixed ≡ self.old.pass.fixed }
+        ensures book { self.new.pass.book ≡ self.old.pass.book }
+        ensures refused { self.new.pass.refused ≡ self.old.pass.refused }
+        ensures ahead { self.new.pass.ahead ≡ self.old.pass.ahead }
         ensures books { self.new.books ≡ self.old.books }
-        ensures err { OnErr result (self.new ≡ self.old) }
+        ensures list { note.new.list ≡ note.old.list }
+        ensures of { note.new.book ≡ note.old.book }
     {
-        self.pass.learn(note)
+        self.pass.learn(note);
+    }
+
+    /// Its own pass.
+    pub fn pass(&mut self) -> &mut Pass<Tables>
+        ensures* writes_back { sem 𝓛 (LendsPass self.entry result) }
+        ensures value { result.now ≡ self.old.pass }
+    {
+        &mut self.pass
     }
 
     /// What is done about a request at the door of this number, by one view, and by how many changes.
@@ -62,8 +87,10 @@ impl Worker {
         ensures err { OnErr result ((p : Place) → IsAt self.old p → p.door ≡ door → IsLeftBy p self.old self.new request.now) }
         ensures later { BeginsWith self.old.pass.seen self.new.pass.seen }
         ensures fixed { self.new.pass.fixed ≡ self.old.pass.fixed }
-        ensures held { self.new.pass.seen ≡ self.old.pass.seen }
-        ensures place { result ≡ Err OpenFault.Place → ⊥ }
+        ensures book { self.new.pass.book ≡ self.old.pass.book }
+        ensures ok { OnOk result (self.new.pass.refused ≡ self.old.pass.refused) }
+        ensures refused { IfErr result (λ e. CountsPlace e self.old.pass.refused self.new.pass.refused) }
+        ensures ahead { self.new.pass.ahead ≡ self.old.pass.ahead }
     {
         let view = self.pass.read()?;
         let decision = Decision::of(alloc, view.value.table(door), request, &mut self.books)?;

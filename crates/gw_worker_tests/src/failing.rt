@@ -3,6 +3,7 @@ use super::server::Server;
 use gw_link::{MemLink, MemSink, MemSource, MemUpstream};
 use gw_text::NoMemory;
 use std::alloc::Global;
+use std::sync::Wait;
 use std::test::*;
 
 // Two requests of 28 bytes each. What is sent for each has 66 bytes, and the answer of the backend 52, which the reply has too.
@@ -97,9 +98,9 @@ const CALLS: &[(u64, &str)] = &[
 ];
 
 // What comes of a connection whose read and whose write of these numbers fail, with a backend whose call of this number fails.
-fn served(
+fn served<R: Wait + Drop>(
     alloc: Global,
-    server: &mut Server,
+    server: &mut Server<R>,
     read: u64,
     write: u64,
     call: u64,
@@ -113,7 +114,12 @@ fn served(
 }
 
 // Fails unless it is what is wanted, and the worker serves the next connection.
-fn expect(alloc: Global, server: &mut Server, found: &str, wanted: &str) -> Result<(), Fail> {
+fn expect<R: Wait + Drop>(
+    alloc: Global,
+    server: &mut Server<R>,
+    found: &str,
+    wanted: &str,
+) -> Result<(), Fail> {
     let next = served(alloc, server, NONE, NONE, NONE)?;
     if found == wanted && next.as_str() == SERVED {
         return Ok(());
@@ -124,7 +130,7 @@ fn expect(alloc: Global, server: &mut Server, found: &str, wanted: &str) -> Resu
 #[test]
 fn each_read_fails_in_turn(rt: HostRuntime) -> Result<(), Fail> {
     let alloc = rt.alloc();
-    let mut server = Server::new(alloc)?;
+    let mut server = Server::new(alloc, &rt, &rt)?;
     for (number, wanted) in READS {
         let found = served(alloc, &mut server, *number, NONE, NONE)?;
         expect(alloc, &mut server, found.as_str(), *wanted)?;
@@ -135,7 +141,7 @@ fn each_read_fails_in_turn(rt: HostRuntime) -> Result<(), Fail> {
 #[test]
 fn each_write_fails_in_turn(rt: HostRuntime) -> Result<(), Fail> {
     let alloc = rt.alloc();
-    let mut server = Server::new(alloc)?;
+    let mut server = Server::new(alloc, &rt, &rt)?;
     for (number, wanted) in WRITES {
         let found = served(alloc, &mut server, NONE, *number, NONE)?;
         expect(alloc, &mut server, found.as_str(), *wanted)?;
@@ -146,7 +152,7 @@ fn each_write_fails_in_turn(rt: HostRuntime) -> Result<(), Fail> {
 #[test]
 fn each_call_of_the_backend_fails_in_turn(rt: HostRuntime) -> Result<(), Fail> {
     let alloc = rt.alloc();
-    let mut server = Server::new(alloc)?;
+    let mut server = Server::new(alloc, &rt, &rt)?;
     for (number, wanted) in CALLS {
         let found = served(alloc, &mut server, NONE, NONE, *number)?;
         expect(alloc, &mut server, found.as_str(), *wanted)?;
@@ -157,7 +163,7 @@ fn each_call_of_the_backend_fails_in_turn(rt: HostRuntime) -> Result<(), Fail> {
 #[test]
 fn a_failed_write_asks_no_backend_again(rt: HostRuntime) -> Result<(), Fail> {
     let alloc = rt.alloc();
-    let mut server = Server::new(alloc)?;
+    let mut server = Server::new(alloc, &rt, &rt)?;
     let source = MemSource::new(POST.to_vec(alloc)?, Vec::new(alloc));
     let sink = MemSink::new(alloc, [0].to_vec(alloc)?);
     let mut link = MemLink::new(source, sink, Vec::new(alloc));

@@ -8,3 +8,5 @@ mod failing;
 mod pieces;
 #[cfg(test)]
 mod server;
+#[cfg(test)]
+mod untold;

@@ -1,20 +1,21 @@
 //! A worker that has seen one Route with its backend, and what it makes of a connection, as text.
 ghost use Rattle.std.specs.Prelude.{◌<◌, length, IfOk};
-ghost use Rattle.gw_hub.specs.Control.{Follows};
 
 use gw_answers::ServedRow;
 use gw_frames::Ended;
-use gw_hub::{Controller, Outcome};
+use gw_hub::Controller;
 use gw_link::{MemLink, MemUpstream};
 use gw_match::Tables;
 use gw_message_rows::show;
-use gw_snap::{Note, Pass, Passes};
+use gw_resolve::Outcome;
+use gw_snapshots::{Pass, SnapFaults};
 use gw_text::{Door, Doors, NoMemory, Second, Text};
 use gw_worker::{ConnFault, Worker, serve_proxy};
 use std::alloc::Global;
+use std::sync::Wait;
 use std::test::*;
 
-const EVENTS: &[&str] = &[
+pub(crate) const EVENTS: &[&str] = &[
     r#"{"type":"ADDED","object":{"apiVersion":"gateway.networking.k8s.io/v1","kind":"GatewayClass","metadata":{"name":"c"},"spec":{"controllerName":"gateward.example/controller"}}}"#,
     r#"{"type":"ADDED","object":{"apiVersion":"gateway.networking.k8s.io/v1","kind":"Gateway","metadata":{"name":"g"},"spec":{"gatewayClassName":"c","listeners":[{"name":"http","port":80,"protocol":"HTTP"}]}}}"#,
     r#"{"type":"ADDED","object":{"apiVersion":"gateway.networking.k8s.io/v1","kind":"HTTPRoute","metadata":{"name":"r"},"spec":{"parentRefs":[{"name":"g"}],"rules":[{"backendRefs":[{"name":"s","port":80}]}]}}}"#,
@@ -22,63 +23,76 @@ const EVENTS: &[&str] = &[
     r#"{"type":"ADDED","object":{"apiVersion":"discovery.k8s.io/v1","kind":"EndpointSlice","metadata":{"name":"s-1","labels":{"kubernetes.io/service-name":"s"}},"addressType":"IPv4","ports":[{"port":8080}],"endpoints":[{"addresses":["10.0.0.1"]}]}}"#,
 ];
 
-// A controller for one door, and its passes.
-fn opened(alloc: Global) -> Result<(Controller, Passes<Tables>), Fail>
-    ensures { IfOk result (λ opened. Follows opened.0) }
-{
-    let mut doors = Vec::new(alloc);
-    doors.push(Door::parse(alloc, "default/g:80=127.0.0.1:18080")?)?;
-    let doors = Doors::new(alloc, doors)?;
-    let name = Text::of(alloc, "gateward.example/controller")?;
-    Ok(Controller::open(alloc, doors, name, 1)?)
+/// A worker at one door, whose listener has one Route; the controller of its opening, which must not end before it; and another pass.
+/// Neither the worker nor the other pass is told anything.
+#[derive(Drop)]
+pub(crate) struct Server<R: Wait + Drop> {
+    pub(crate) controller: Controller<R>,
+    pub(crate) worker: Worker,
+    pub(crate) other: Pass<Tables>,
+    ghost door: { 0 < length worker.pass.fixed.0 },
 }
 
-// A worker over a pass that has seen nothing, and learns of a publication.
-fn worker_over(alloc: Global, pass: Pass<Tables>, note: &Note<Tables>) -> Result<Worker, Fail>
+// A worker whose tables have a door.
+fn worker_over(alloc: Global, pass: Pass<Tables>) -> Result<Worker, Fail>
     ensures { IfOk result (λ worker. 0 < length worker.pass.fixed.0) }
 {
     let mut pass = pass;
-    if pass.front() != 0 {
-        return Err(Fail::from("a new pass has seen nothing"));
-    }
-    pass.learn(note)?;
     if pass.read()?.value.doors() == 0 {
         return Err(Fail::from("there is a door"));
     }
     Ok(Worker::new(alloc, pass))
 }
 
-// A worker that has seen all events.
-fn worker(alloc: Global) -> Result<Worker, Fail>
-    ensures { IfOk result (λ worker. 0 < length worker.pass.fixed.0) }
-{
-    let (controller, passes) = opened(alloc)?;
-    let mut controller = controller;
-    'events: for event in EVENTS {
+fn doors(alloc: Global) -> Result<Doors, Fail> {
+    let mut doors = Vec::new(alloc);
+    doors.push(Door::parse(alloc, "default/g:80=127.0.0.1:18080")?)?;
+    Ok(Doors::new(alloc, doors)?)
+}
+
+/// Takes and publishes the changes.
+pub(crate) fn publish_all<R: Wait + Drop, W: Wait>(
+    rt: &W,
+    controller: &mut Controller<R>,
+    events: &[&str],
+) -> Result<(), Fail> {
+    'events: for event in events {
         if controller.change(event.as_bytes(), Second(0))? != Outcome::Accepted {
             return Err(Fail::from("an event is a change"));
         }
     }
-    let note = controller.publish()?;
-    let mut passes = passes;
-    match passes.take() {
-        Some(pass) => worker_over(alloc, pass, &note),
-        None => Err(Fail::from("there is a pass")),
+    drop(controller.publish(rt)?);
+    Ok(())
+}
+
+impl<R: Wait + Drop> Server<R> {
+    /// One over a controller that took no change.
+    pub(crate) fn open(alloc: Global, rt: R) -> Result<Server<R>, Fail> {
+        let name = Text::of(alloc, "gateward.example/controller")?;
+        let mut faults = SnapFaults::new();
+        let (controller, mut passes) = Controller::open(
+            alloc,
+            rt,
+            &mut faults,
+            doors(alloc)?,
+            name,
+            2,
+        )?;
+        let (Some(one), Some(other)) = (passes.take(), passes.take()) else {
+            return Err(Fail::from("there are two passes"));
+        };
+        Ok(Server {
+            controller,
+            worker: worker_over(alloc, one)?,
+            other,
+        })
     }
-}
 
-/// A worker at one door, whose listener has one Route.
-#[derive(Drop)]
-pub(crate) struct Server {
-    pub(crate) worker: Worker,
-    ghost door: { 0 < length worker.pass.fixed.0 },
-}
-
-impl Server {
-    /// One over a worker that has seen all events.
-    pub(crate) fn new(alloc: Global) -> Result<Server, Fail> {
-        let worker = worker(alloc)?;
-        Ok(Server { worker })
+    /// One over a worker that has all events to see.
+    pub(crate) fn new<W: Wait>(alloc: Global, rt: R, waits: &W) -> Result<Server<R>, Fail> {
+        let mut server = Server::open(alloc, rt)?;
+        publish_all(waits, &mut server.controller, EVENTS)?;
+        Ok(server)
     }
 
     /// Serves a connection to its end: a status and a fault for each row, how it ended, and what was written.

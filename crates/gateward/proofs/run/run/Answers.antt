@@ -1,11 +1,58 @@
--- The text of the output was written, or the front of it.
-use Rattle.gateward.proofs.Running.{text_written, front_written}
+-- What a run that comes to its text comes to, and one that serves.
+use Rattle.std.proofs.Common.{arith, inl, inr}
+use Rattle.gateward.proofs.Running.{ended}
+use Rattle.gateward.proofs.Serving.{failed, served, set_to_serve, write_failed}
 use Rattle.gateward.proofs.run.run.Goals as goal
 
 pub returns-in-Ok-output_of-clause-text : goal.returns-in-Ok-output_of-clause-text
 returns-in-Ok-output_of-clause-text g c =
-    text_written _ _ c.in-Ok.ensures.start _ _ _ (rw c.as_slice.ensures.value at c.in-Ok-output_of.ensures) _ _ _ _ c.in-Ok-read_all.ensures.all c.in-Ok-read_all.ensures.end _ c.finish.ensures.whole
+    λ few. inr ((ended _ _ c.in-Ok.ensures.start _ _ _ _ _ _ _ _ _ _ c.in-Ok-read_all.ensures.all c.in-Ok-read_all.ensures.end _ _ _
+    (rw c.as_slice.ensures.value at c.in-Ok-output_of.ensures.output) c.in-Ok-output_of.ensures.counted c.finish.ensures.finishes).text few)
+
+pub returns-in-Ok-output_of-clause-uncounted : goal.returns-in-Ok-output_of-clause-uncounted
+returns-in-Ok-output_of-clause-uncounted g c =
+    (ended _ _ c.in-Ok.ensures.start _ _ _ _ _ _ _ _ _ _ c.in-Ok-read_all.ensures.all c.in-Ok-read_all.ensures.end _ _ _
+    (rw c.as_slice.ensures.value at c.in-Ok-output_of.ensures.output) c.in-Ok-output_of.ensures.counted c.finish.ensures.finishes).uncounted
+
+pub returns-in-Ok-output_of-clause-begin : goal.returns-in-Ok-output_of-clause-begin
+returns-in-Ok-output_of-clause-begin g c =
+    λ five. inr (inr ((ended _ _ c.in-Ok.ensures.start _ _ _ _ _ _ _ _ _ _ c.in-Ok-read_all.ensures.all c.in-Ok-read_all.ensures.end _ _ _
+    (rw c.as_slice.ensures.value at c.in-Ok-output_of.ensures.output) c.in-Ok-output_of.ensures.counted c.finish.ensures.finishes).place five))
+
+pub returns-in-Ok-output_of-clause-above : goal.returns-in-Ok-output_of-clause-above
+returns-in-Ok-output_of-clause-above g c =
+    (ended _ _ c.in-Ok.ensures.start _ _ _ _ _ _ _ _ _ _ c.in-Ok-read_all.ensures.all c.in-Ok-read_all.ensures.end _ _ _
+    (rw c.as_slice.ensures.value at c.in-Ok-output_of.ensures.output) c.in-Ok-output_of.ensures.counted c.finish.ensures.finishes).above
 
 pub returns-in-Ok-output_of-clause-front : goal.returns-in-Ok-output_of-clause-front
 returns-in-Ok-output_of-clause-front g c =
-    front_written _ _ c.in-Ok.ensures.start _ _ _ (rw c.as_slice.ensures.value at c.in-Ok-output_of.ensures) _ _ _ _ c.in-Ok-read_all.ensures.all c.in-Ok-read_all.ensures.end _ (λ failed. (c.finish.ensures.front failed).1)
+    λ four. inr (((ended _ _ c.in-Ok.ensures.start _ _ _ _ _ _ _ _ _ _ c.in-Ok-read_all.ensures.all c.in-Ok-read_all.ensures.end _ _ _
+    (rw c.as_slice.ensures.value at c.in-Ok-output_of.ensures.output) c.in-Ok-output_of.ensures.counted c.finish.ensures.finishes).front four).1)
+
+pub returns-in-Ok-output_of-clause-complete : goal.returns-in-Ok-output_of-clause-complete
+returns-in-Ok-output_of-clause-complete g c = λ setting starts within source sink places ahead edge crew.
+    inl ((ended _ _ c.in-Ok.ensures.start _ _ _ _ _ _ _ _ _ _ c.in-Ok-read_all.ensures.all c.in-Ok-read_all.ensures.end _ _ _
+    (rw c.as_slice.ensures.value at c.in-Ok-output_of.ensures.output) c.in-Ok-output_of.ensures.counted c.finish.ensures.finishes).complete sink places ahead)
+
+pub returns-in-Ok-output_of-clause-exits : goal.returns-in-Ok-output_of-clause-exits
+returns-in-Ok-output_of-clause-exits g c =
+    (ended _ _ c.in-Ok.ensures.start _ _ _ _ _ _ _ _ _ _ c.in-Ok-read_all.ensures.all c.in-Ok-read_all.ensures.end _ _ _
+    (rw c.as_slice.ensures.value at c.in-Ok-output_of.ensures.output) c.in-Ok-output_of.ensures.counted c.finish.ensures.finishes).exits
+
+pub returns-in-Some-clause-text : goal.returns-in-Some-clause-text
+returns-in-Some-clause-text g c = λ few.
+    let end = c.run_service.ensures.served few in
+    inl (end.0, served _ _ _ _ _ _ c.setting.view_is c.in-Ok.ensures.start c.in-Some.ensures.some _ _ _ _ _ end.1.0 end.1.1.0 end.1.1.1)
+
+pub returns-in-Some-clause-begin : goal.returns-in-Some-clause-begin
+returns-in-Some-clause-begin g c = λ five.
+    let end = c.run_service.ensures.fault (λ few. omega (arith, five, few)) in
+    inl (end.0, (end.1.0, (end.1.1.0, failed _ _ _ _ _ _ c.setting.view_is c.in-Ok.ensures.start c.in-Some.ensures.some _ _ _ _ end.0 _ _ end.1.1.1.0 end.1.1.1.1.0 end.1.1.1.1.1)))
+
+pub returns-in-Some-clause-front : goal.returns-in-Some-clause-front
+returns-in-Some-clause-front g c = λ four.
+    let end = c.run_service.ensures.fault (λ few. omega (arith, four, few)) in
+    inl (
+      set_to_serve _ _ _ _ _ c.in-Ok.ensures.start c.in-Some.ensures.some,
+      write_failed end.0 _ _ _ end.1.1.1.0 _ _ _ _ _ four end.1.0 end.1.1.1.1.0 end.1.1.1.1.1,
+    )

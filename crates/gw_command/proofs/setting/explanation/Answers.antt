@@ -1,6 +1,6 @@
 -- Bytes that are no request.
 use Rattle.std.proofs.Common.{None, refl, ap, subst}
-use Rattle.gw_command.specs.Requests.{IsRequestOf}
+use Rattle.gw_requests.specs.Requests.{IsRequestOf}
 use Rattle.gw_command.specs.Words.{ExplainWords}
 use Rattle.gw_command.proofs.setting.explanation.Goals as goal
 

@@ -1,29 +1,18 @@
--- All lines, and the last one.
-use Rattle.std.proofs.Common.{◌∙◌, ℕ, List, Vec, Global, ◌++◌, ap, nat_lt, subst}
-use Rattle.gw_report.specs.Lines.{lines_of}
-use Rattle.gw_replay.specs.Replays.{Runs, Site, beginning, totals_text}
+-- All lines and the last one, or the lines before the one at which the script is given up.
+use Rattle.std.proofs.Common.{◌∙◌, List, [], ℕ, length, refl, string_bytes, subst, sym}
+use Rattle.gw_replay.specs.States.{IsGivenUp}
+use Rattle.gw_replay.specs.declared.ending.Ending.{Ending}
+use Rattle.gw_replay.proofs.Finishing.{front_written, whole_written}
 use Rattle.gw_replay.proofs.output.replay_output.Goals as goal
 
-pub end-requires : goal.end-requires
-end-requires g c =
-    let x = c.in_ok-lines.ensures.done.did (beginning (record { doors = c.args.doors; controller = c.args.controller }) c.args.workers) c.in_ok-replay.ensures.keeps in
-    (x.state, x.keeps)
+pub returns-in_ok-ending-in-Ok-lines-clause-replayed : goal.returns-in_ok-ending-in-Ok-lines-clause-replayed
+returns-in_ok-ending-in-Ok-lines-clause-replayed g c =
+    whole_written c.args.doors c.args.controller c.args.workers c.args.input.now _ c.in-Ok.replay c.lines.new.self [] c.ended.result.text c.in-Ok.ensures.keeps c.in-Ok.ensures.site c.in-Ok.ensures.text
+    _ c.ended.result.ending c.in-Ok-lines.ensures.runs (λ s k. c.ended.ensures.text ∙ c.in_ok-ending-in-Ok-lines.ensures.text s k) (c.ended.ensures.ending ∙ c.in_ok-ending-in-Ok-lines.ensures.ending)
 
-pub returns : goal.returns
-returns g c =
-    let start = beginning (record { doors = c.args.doors; controller = c.args.controller }) c.args.workers in
-    let r = c.in_ok-lines.ensures in
-    let x = r.done.did start c.in_ok-replay.ensures.keeps in
-    record {
-      moments = r.moments;
-      after = g.C.Clock.moments c.lines.new.clock;
-      in_turn = r.in_turn;
-      replay = record {
-        last = x.state;
-        lines = x.text;
-        runs = subst (λ (site : Site). Runs site 1 (lines_of c.args.input.now) r.moments start x.state x.text) c.in_ok-replay.ensures.site x.does_so;
-        text_is = c.from_vec.ensures ∙ ap (λ (v : Vec ℕ Global). v.items) c.into_bytes.ensures.value ∙ c.in_ok-end.ensures.text x.state x.keeps
-            ∙ ap (λ (t : List ℕ). t ++ totals_text x.state) (x.printed ∙ ap (λ (t : List ℕ). t ++ x.text) c.in_ok-replay.ensures.text);
-        refused_is = ap (nat_lt 0) (c.end.ensures.refused ∙ x.keeps.refused);
-      };
-    }
+pub returns-in_ok-ending-in-Err-clause-replayed : goal.returns-in_ok-ending-in-Err-clause-replayed
+returns-in_ok-ending-in-Err-clause-replayed g c =
+    front_written c.args.doors c.args.controller c.args.workers c.args.input.now _ c.in-Ok.replay c.lines.new.self (string_bytes c.lines.new.self.text) c.ended-in-Err.result.text c.in-Ok.ensures.keeps c.in-Ok.ensures.site c.in-Ok.ensures.text
+    c.in-Err.stop c.ended-in-Err.result.ending refl c.in-Err.ensures.stops c.in_ok-ending-in-Err.ensures.named
+    (subst (λ (e : Ending). IsGivenUp e (string_bytes c.lines.new.self.text) (length c.lines.new.self.controller.published) c.ended-in-Err.result.text) (sym c.ended-in-Err.ensures.ending)
+    (subst (λ (t : List ℕ). IsGivenUp c.in_ok-ending-in-Err.ending (string_bytes c.lines.new.self.text) (length c.lines.new.self.controller.published) t) (sym c.ended-in-Err.ensures.text) c.in_ok-ending-in-Err.ensures.given_up))

@@ -1,29 +1,50 @@
 -- A worker that learns.
-use Rattle.std.proofs.Common.{◌≡◌, ◌∙◌, ℕ, List, inl, sym, subst, ap, get_or, set, arith}
-use Rattle.gw_snap.specs.Lists.{BeginsWith, Seen}
+use Rattle.std.proofs.Common.{◌≡◌, ◌∙◌, ◌<◌, ℕ, List, refl, sym, subst, ap, length, get_or, arith}
+use Rattle.std.proofs.lemmas.List.{length-map}
+use Rattle.gw_snapshots.specs.Lists.{BeginsWith}
 use Rattle.gw_store.specs.declared.event.Entry.{Entry}
-use Rattle.gw_text.specs.model.Doors.{Door}
-use Rattle.gw_worker.specs.declared.worker.Worker.{Worker}
-use Rattle.gw_replay.specs.Replays.{with_seen}
-use Rattle.gw_replay.proofs.Keeping.{learned, learned_more, unlearned}
+use Rattle.gw_worker.specs.model.Workers.{Worker}
+use Rattle.gw_replay.proofs.Keeping.{first_all, first_at, first_more, first_none, picks_same}
 use Rattle.gw_replay.proofs.publications.learn_all.Goals as goal
+
+pub workers-init : goal.workers-init
+workers-init c = record {
+  list = refl;
+  book = refl;
+  picks = refl;
+  seen = λ list fixed have. first_none list c.args.note.now.list fixed c.args.note.now.book c.args.workers.now have;
+}
 
 pub learn-requires : goal.learn-requires
 learn-requires c =
-    let was = unlearned (record { seen = c.requires.0; fixed = c.args.note.now.fixed }) (with_seen c.args.note.now.seen) c.args.workers.now c.workers.place c.index-workers-place.result c.requires.1.1 (omega arith) in
-    let at : (get_or c.workers.workers c.workers.place c.index-workers-place.result).pass ≡ record { seen = c.requires.0; fixed = c.args.note.now.fixed }
-    = ap (λ (xs : List Worker). (get_or xs c.workers.place c.index-workers-place.result).pass) c.workers.invariant ∙ was in
-    inl (subst (λ (p : Seen Entry (List Door × List ℕ)). BeginsWith p.seen c.args.note.now.seen) (sym at) c.requires.1.0)
+    let size : length c.workers.workers ≡ length c.args.workers.now
+    = omega (arith, ap length c.workers.invariant.picks, length-map c.workers.workers (λ (v : Worker). v.books), length-map c.args.workers.now (λ (v : Worker). v.books)) in
+    c.workers.invariant.book ∙ sym (first_at c.workers.place c.args.note.now.list c.requires.1.0 c.args.note.now.book c.workers.workers c.index-workers-place.result (omega (arith, size))
+    (c.workers.invariant.seen c.requires.0 c.requires.1.0 c.requires.1.1)).book_is
 
 pub workers-preserved : goal.workers-preserved
 workers-preserved c =
-    let f = with_seen c.args.note.now.seen in
     let n = c.workers.place in
     let d = c.index-workers-place.result in
-    let was = unlearned (record { seen = c.requires.0; fixed = c.args.note.now.fixed }) f c.args.workers.now n d c.requires.1.1 (omega arith) in
-    let at : (get_or c.workers.workers n d).pass ≡ record { seen = c.requires.0; fixed = c.args.note.now.fixed }
-    = ap (λ (xs : List Worker). (get_or xs n d).pass) c.workers.invariant ∙ was in
-    let new : c.learn.new.self ≡ f (get_or c.workers.workers n d)
-    = learned c.requires.0 c.args.note.now (get_or c.workers.workers n d) c.learn.new.self at c.requires.1.0 c.in_ok-learn.ensures.theirs c.in_ok-learn.ensures.one c.in_ok-learn.ensures.books in
-    ap (λ (xs : List Worker). set xs n c.learn.new.self) c.workers.invariant
-    ∙ learned_more f c.args.workers.now n d c.learn.new.self (omega arith) (new ∙ ap (λ (xs : List Worker). f (get_or xs n d)) c.workers.invariant)
+    let w = c.learn.new.self in
+    let size : length c.workers.workers ≡ length c.args.workers.now
+    = omega (arith, ap length c.workers.invariant.picks, length-map c.workers.workers (λ (v : Worker). v.books), length-map c.args.workers.now (λ (v : Worker). v.books)) in
+    let within : n < length c.workers.workers = omega (arith, size) in
+    record {
+      list = c.learn.ensures.list ∙ c.workers.invariant.list;
+      book = c.learn.ensures.of ∙ c.workers.invariant.book;
+      picks = picks_same c.workers.workers n d w c.learn.ensures.books ∙ c.workers.invariant.picks;
+      seen = λ list fixed have.
+          let before = c.workers.invariant.seen list fixed have in
+          let of = first_at n c.args.note.now.list fixed c.args.note.now.book c.workers.workers d within before in
+          first_more n c.args.note.now.list fixed c.args.note.now.book c.workers.workers w before (record {
+            seen = subst (λ (l : List Entry). BeginsWith l w.pass.seen) c.workers.invariant.list c.learn.ensures.theirs;
+            of = record { fixed_is = c.learn.ensures.fixed ∙ of.fixed_is; book_is = c.learn.ensures.book ∙ of.book_is };
+          });
+    }
+
+pub returns-clause-seen : goal.returns-clause-seen
+returns-clause-seen c = λ list fixed have.
+    first_all c.workers.place c.args.note.now.list fixed c.args.note.now.book c.workers.workers
+    (omega (arith, ap length c.workers.invariant.picks, length-map c.workers.workers (λ (v : Worker). v.books), length-map c.args.workers.now (λ (v : Worker). v.books)))
+    (c.workers.invariant.seen list fixed have)

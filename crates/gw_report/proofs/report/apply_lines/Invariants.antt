@@ -1,7 +1,7 @@
 -- What came of the lines so far, and then of the rest, is what comes of all.
 use Rattle.std.proofs.Common.{ℤ, ◌+◌, ◌≤◌, List, length, Option}
 use Rattle.std.specs.Option.{option_copied}
-use Rattle.gw_report.specs.Lines.{lines_of, lines_left}
+use Rattle.gw_store.specs.Lines.{lines_of, lines_left}
 use Rattle.gw_report.specs.Reports.{Applies, IsReport}
 use Rattle.gw_report.specs.declared.report.Report.{Report}
 use Rattle.gw_report.proofs.Applying.{left_size}

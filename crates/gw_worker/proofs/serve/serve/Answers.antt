@@ -4,9 +4,9 @@ use Rattle.std.proofs.lemmas.List.{length-take-le}
 use Rattle.gw_answers.proofs.Left.{on_err}
 use Rattle.gw_link.proofs.PieceLemmas.{Gives-more, Gives-nothing}
 use Rattle.gw_link.specs.declared.order.UpstreamCall.{UpstreamCall}
+use Rattle.gw_lists.proofs.Beginnings.{begins_with-self, begins_with-trans}
 use Rattle.gw_text.specs.model.Addresses.{Socket}
-use Rattle.gw_worker.proofs.Deciding.{begins_itself}
-use Rattle.gw_worker.proofs.Going.{begins_then, still_at}
+use Rattle.gw_worker.proofs.Going.{still_at}
 use Rattle.gw_worker.proofs.Linking.{broke_settled, calm, empty_size, end_kept, fed_first, fed_more, gives_kept, ran_on, stopped_on, took_first, took_kept, took_on}
 use Rattle.gw_worker.specs.Conns.{StandsFor}
 use Rattle.gw_worker.specs.Flows.{Outside, outside}
@@ -23,9 +23,11 @@ pieces-init g c = record {
   link_later = omega arith;
   up_later = omega arith;
   becomes = g.met.U.Upstream.becomes_self _;
-  later = begins_itself _;
+  later = begins_with-self _;
   fixed = refl;
-  held = refl;
+  book = refl;
+  refused = refl;
+  ahead = refl;
   door = refl;
 }
 
@@ -114,8 +116,10 @@ pieces-preserved g c =
       link_later = omega (arith, c.pieces.invariant.link_later, c.read.ensures.counts.later, c.take.ensures.link_later);
       up_later = omega (arith, c.pieces.invariant.up_later, c.take.ensures.up_later);
       becomes = g.met.U.Upstream.becomes_then _ _ _ c.pieces.invariant.becomes c.take.ensures.becomes;
-      later = begins_then _ _ _ c.pieces.invariant.later c.take.ensures.later;
+      later = begins_with-trans _ _ _ c.pieces.invariant.later c.take.ensures.later;
       fixed = c.take.ensures.fixed ∙ c.pieces.invariant.fixed;
-      held = c.take.ensures.held ∙ c.pieces.invariant.held;
+      book = c.take.ensures.book ∙ c.pieces.invariant.book;
+      refused = c.in_ok-take.ensures.ok ∙ c.pieces.invariant.refused;
+      ahead = c.take.ensures.ahead ∙ c.pieces.invariant.ahead;
       door = c.take.ensures.door ∙ c.pieces.invariant.door;
     }

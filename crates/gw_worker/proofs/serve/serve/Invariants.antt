@@ -2,7 +2,7 @@
 use Rattle.std.proofs.Common.{◌≡◌, ◌≤◌, ◌+◌, ◌-◌, ℕ, List, ◌++◌, length}
 use Rattle.gw_link.specs.Pieces.{Gives}
 use Rattle.gw_message_laws.specs.declared.requests.TheConstants.{MOST_OPEN_BYTES}
-use Rattle.gw_snap.specs.Lists.{BeginsWith}
+use Rattle.gw_snapshots.specs.Lists.{BeginsWith}
 use Rattle.gw_worker.specs.Conns.{IsFed, IsServing, StandsFor}
 use Rattle.gw_worker.specs.Flows.{Took, outside}
 use Rattle.gw_worker.specs.Workers.{IsAt}
@@ -25,7 +25,9 @@ invariant-pieces g l = record {
   becomes : g.U.Upstream.becomes l.fn.up l.up;
   later : BeginsWith l.fn.w.pass.seen l.w.pass.seen;
   fixed : l.w.pass.fixed ≡ l.fn.w.pass.fixed;
-  held : l.w.pass.seen ≡ l.fn.w.pass.seen;
+  book : l.w.pass.book ≡ l.fn.w.pass.book;
+  refused : l.w.pass.refused ≡ l.fn.w.pass.refused;
+  ahead : l.w.pass.ahead ≡ l.fn.w.pass.ahead;
   door : l.conn.door ≡ l.fn.conn.door;
 }
 

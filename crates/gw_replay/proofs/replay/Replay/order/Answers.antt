@@ -6,7 +6,7 @@ use Rattle.gw_replay.proofs.Keeping.{keeps_ordered}
 use Rattle.gw_replay.proofs.replay.Replay.order.Goals as goal
 
 pub returns-clause-does : goal.returns-clause-does
-returns-clause-does c = on_ok_weaker c.order.result (λ said. record {
+returns-clause-does g c = on_ok_weaker c.order.result (λ said. record {
   site = refl;
   did = λ s k. record {
     state = with_order s c.args.order;

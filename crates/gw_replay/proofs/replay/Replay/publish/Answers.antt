@@ -1,58 +1,66 @@
 -- All is published.
-use Rattle.std.proofs.Common.{◌≡◌, ◌∙◌, ℕ, List, length, arith, ap, refl, sym, subst, map}
+use Rattle.std.proofs.Common.{◌≡◌, ◌∙◌, ℕ, List, length, arith, ap, refl, sym, subst}
 use Rattle.std.proofs.lemmas.List.{length-map, with_items_is}
 use Rattle.std.proofs.lemmas.Result.{on_ok_weaker}
 use Rattle.std.specs.Vec.{with_items}
-use Rattle.gw_hub.specs.Control.{Control}
 use Rattle.gw_json.specs.Lines.{line_of}
-use Rattle.gw_snap.specs.Lists.{Seen}
+use Rattle.gw_snapshots.specs.Lists.{Book}
 use Rattle.gw_store.specs.declared.event.Entry.{Entry}
 use Rattle.gw_text.specs.model.Doors.{Door}
-use Rattle.gw_worker.specs.declared.worker.Worker.{Worker}
+use Rattle.gw_worker.specs.model.Workers.{Worker}
 use Rattle.gw_replay.specs.Lines.{front_data}
-use Rattle.gw_replay.specs.Replays.{with_seen}
-use Rattle.gw_replay.specs.States.{HaveSeen}
-use Rattle.gw_replay.proofs.Keeping.{follows, keeps_published}
+use Rattle.gw_replay.specs.States.{HaveLearnt, HaveSeen, picks_of}
+use Rattle.gw_replay.proofs.Keeping.{keeps_published, same_site}
 use Rattle.gw_replay.proofs.replay.Replay.publish.Goals as goal
 
-pub publish-requires : goal.publish-requires
-publish-requires c = follows c.args.self.now c.requires.0 c.requires.1
-
 pub learn_all-requires : goal.learn_all-requires
-learn_all-requires c =
+learn_all-requires g c =
     let k = c.requires in
-    let changes : c.args.self.now.controller.changes ≡ k.0.changes = ap (λ (control : Control). control.changes) k.1.controller in
-    let seen : c.in_ok-note.note.seen ≡ k.0.changes = ap (λ (n : Seen Entry (List Door × List ℕ)). n.seen) c.in_ok-note.ensures.note ∙ changes in
-    let fixed : c.in_ok-note.note.fixed ≡ (c.args.self.now.controller.doors, c.args.self.now.controller.controller)
-    = ap (λ (n : Seen Entry (List Door × List ℕ)). n.fixed) c.in_ok-note.ensures.note in (
-      k.0.published,
+    let control = c.args.self.now.controller in (
+      control.published,
       (
-        (k.1.begins.0, seen ∙ k.1.begins.1),
-        subst (λ (f : List Door × List ℕ). HaveSeen (record { seen = k.0.published; fixed = f }) c.deref_mut.result.now) (sym fixed)
-            (subst (λ (ws : List Worker). HaveSeen (record { seen = k.0.published; fixed = (c.args.self.now.controller.doors, c.args.self.now.controller.controller) }) ws)
-            (sym (c.deref_mut.ensures.value ∙ k.1.workers)) k.1.seen),
+        (control.doors, control.controller),
+        subst (λ (b : Book). HaveSeen control.published (control.doors, control.controller) b c.deref_mut.result.now) (sym c.in_ok-note.ensures.of)
+            (subst (λ (ws : List Worker). HaveSeen control.published (control.doors, control.controller) control.book ws) (sym c.deref_mut.ensures.value) k.1.learnt),
       ),
     )
 
 pub returns-clause-does : goal.returns-clause-does
-returns-clause-does c = on_ok_weaker c.push_front.result (λ printed. record {
-  site = ap (λ (control : Control). record { doors = control.doors; controller = control.controller }) c.in_ok-note.ensures.published;
-  did = λ s k. record {
-    state = record s { published = s.changes; workers = map (with_seen s.changes) s.workers };
-    text = line_of (front_data c.front.result c.args.number);
-    does_so = record {
-      state = refl;
-      text_is = ap (λ (n : ℕ). line_of (front_data n c.args.number))
-          (c.front.ensures ∙ ap (λ (control : Control). length control.published) c.in_ok-note.ensures.published ∙ ap (λ (control : Control). length control.changes) k.controller);
-    };
-    keeps = keeps_published c.args.self.now (record c.args.self.now {
-      controller = c.publish.new.self;
-      workers = with_items c.args.self.now.workers c.learn_all.new.workers;
-      text = c.push_front.new.text;
-    }) s k refl c.in_ok-note.ensures.published
-        (with_items_is c.args.self.now.workers c.learn_all.new.workers
-        (omega (arith, ap length c.in_ok-learn_all.ensures, length-map c.deref_mut.result.now (with_seen c.in_ok-note.note.seen), c.deref_mut.ensures.len))
-        ∙ c.in_ok-learn_all.ensures ∙ ap (map (with_seen c.in_ok-note.note.seen)) c.deref_mut.ensures.value ∙ ap (λ (list : List Entry). map (with_seen list) c.args.self.now.workers.items) (ap (λ (n : Seen Entry (List Door × List ℕ)). n.seen) c.in_ok-note.ensures.note));
-    printed = printed;
-  };
+returns-clause-does g c = on_ok_weaker c.push_front.result (λ printed. record {
+  site = same_site c.args.self.now (record c.args.self.now { controller = c.publish.new.self }) c.publish.ensures.doors c.publish.ensures.controller;
+  did = λ s k.
+      let control = c.args.self.now.controller in
+      let new = c.publish.new.self in
+      let workers = with_items c.args.self.now.workers c.learn_all.new.workers in
+      let size : length c.learn_all.new.workers ≡ c.args.self.now.workers.len
+      = omega (arith, ap length c.learn_all.ensures.picks, length-map c.learn_all.new.workers (λ (w : Worker). w.books), length-map c.deref_mut.result.now (λ (w : Worker). w.books), c.deref_mut.ensures.len) in
+      let items : workers.items ≡ c.learn_all.new.workers = with_items_is c.args.self.now.workers c.learn_all.new.workers size in
+      let before : HaveSeen control.published (control.doors, control.controller) c.in_ok-note.note.book c.deref_mut.result.now
+      = subst (λ (b : Book). HaveSeen control.published (control.doors, control.controller) b c.deref_mut.result.now) (sym c.in_ok-note.ensures.of)
+      (subst (λ (ws : List Worker). HaveSeen control.published (control.doors, control.controller) control.book ws) (sym c.deref_mut.ensures.value) k.learnt) in
+      let after : HaveSeen c.in_ok-note.note.list (control.doors, control.controller) c.in_ok-note.note.book c.learn_all.new.workers
+      = c.learn_all.ensures.seen control.published (control.doors, control.controller) before in
+      let learnt : HaveLearnt new workers.items
+      = subst (λ (ws : List Worker). HaveLearnt new ws) (sym items)
+      (subst (λ (list : List Entry). HaveSeen list (new.doors, new.controller) new.book c.learn_all.new.workers) (c.in_ok-note.ensures.note ∙ sym c.in_ok-note.ensures.ok)
+      (subst (λ (b : Book). HaveSeen c.in_ok-note.note.list (new.doors, new.controller) b c.learn_all.new.workers) (c.in_ok-note.ensures.of ∙ sym c.publish.ensures.book)
+      (subst (λ (d : List Door). HaveSeen c.in_ok-note.note.list (d, new.controller) c.in_ok-note.note.book c.learn_all.new.workers) (sym c.publish.ensures.doors)
+      (subst (λ (n : List ℕ). HaveSeen c.in_ok-note.note.list (control.doors, n) c.in_ok-note.note.book c.learn_all.new.workers) (sym c.publish.ensures.controller) after)))) in
+      record {
+        state = record s { published = s.changes };
+        text = line_of (front_data c.front.result c.args.number);
+        does_so = record {
+          state = refl;
+          text_is = ap (λ (n : ℕ). line_of (front_data n c.args.number))
+              (c.front.ensures.published ∙ ap length (c.in_ok-note.ensures.ok ∙ k.changes));
+        };
+        keeps = keeps_published c.args.self.now (record c.args.self.now {
+          controller = new;
+          workers = workers;
+          text = c.push_front.new.text;
+        }) s k refl (same_site c.args.self.now (record c.args.self.now { controller = new }) c.publish.ensures.doors c.publish.ensures.controller)
+            c.publish.ensures.changes c.in_ok-note.ensures.ok learnt
+            (ap picks_of items ∙ c.learn_all.ensures.picks ∙ ap picks_of c.deref_mut.ensures.value);
+        printed = printed;
+      };
 }) c.push_front.ensures

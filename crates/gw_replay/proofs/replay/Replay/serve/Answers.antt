@@ -3,22 +3,30 @@ use Rattle.std.proofs.Common.{◌≡◌, ◌∙◌, ◌<◌, ◌++◌, ℕ, List
 use Rattle.std.proofs.lemmas.List.{length-set}
 use Rattle.std.specs.Vec.{with_item}
 use Rattle.gw_answers.specs.model.ServedRows.{ServedRow}
-use Rattle.gw_worker.specs.declared.worker.Worker.{Worker}
+use Rattle.gw_store.specs.declared.event.Entry.{Entry}
 use Rattle.gw_worker.specs.model.Sessions.{rows_of}
 use Rattle.gw_replay.specs.Lines.{written_text}
 use Rattle.gw_replay.specs.Replays.{place_at}
-use Rattle.gw_replay.specs.States.{site_of}
+use Rattle.gw_replay.specs.States.{Halted, HasSeen, Unless, site_of}
 use Rattle.gw_replay.proofs.Keeping.{keeps_served}
-use Rattle.gw_replay.proofs.Serving.{Taken, backends_so, client_after, door_there, is_at, met_longer, met_so, paired_so, pass_so, printed_all, rows_before, rows_longer, rows_so, serves_so, stands_so, state_after, text_after, worker_at, worker_seen, wrote_so}
+use Rattle.gw_replay.proofs.Serving.{Taken, backends_so, client_after, door_there, has_so, is_at, met_longer, met_so, paired_so, picks_there, printed_all, rows_before, rows_longer, rows_so, serves_so, stands_so, state_after, text_after, worker_seen, worker_within, wrote_so}
+use Rattle.gw_replay.proofs.Stepping.{err_so}
+use Rattle.gw_replay.proofs.Stopping.{halted_by}
+use Rattle.gw_store.proofs.Undoing.{there_set}
 use Rattle.gw_replay.proofs.replay.Replay.serve.Goals as goal
 
-pub take-requires-clause-door : goal.take-requires-clause-door
-take-requires-clause-door c =
+pub take_published-requires-clause-door : goal.take_published-requires-clause-door
+take_published-requires-clause-door g c =
     let k = c.requires in
     door_there c.args.self.now k.0 c.args.client.now k.1.0 c.index_mut-worker.result.now k.1.1.0 k.1.1.1 c.index_mut-worker.ensures.value
 
+pub take_published-requires-clause-book : goal.take_published-requires-clause-book
+take_published-requires-clause-book g c =
+    let k = c.requires in
+    (worker_seen c.args.self.now k.0 c.args.client.now k.1.0 c.index_mut-worker.result.now k.1.1.0 k.1.1.1 c.index_mut-worker.ensures.value).of.book_is
+
 pub split_at-requires : goal.split_at-requires
-split_at-requires c =
+split_at-requires g c =
     let s = c.requires.0 in
     let plain = c.requires.1.0 in
     let keeps = c.requires.1.1.0 in
@@ -26,15 +34,16 @@ split_at-requires c =
     let site = site_of c.args.self.now in
     let w = c.index_mut-worker.result.now in
     let seen = worker_seen c.args.self.now s c.args.client.now plain w keeps client c.index_mut-worker.ensures.value in
-    let v : Taken site c.args.piece.now s plain w c.take.new.worker c.take.new.conn c.in_ok-flow.flow c.no_bytes-link.result.sink.written c.take.new.link.sink.written
-    c.args.self.now.backends c.take.new.backends = record {
+    let v : Taken site c.args.self.now.controller.book c.args.piece.now s plain w c.take_published.new.worker c.take_published.new.client.conn c.in_ok-flow.flow c.no_bytes-link.result.sink.written c.take_published.new.link.sink.written
+    c.args.self.now.backends c.take_published.new.backends = record {
       nothing = c.no_bytes-link.ensures.written;
       told_so = keeps.backends;
-      worker = worker_at c.args.self.now s c.args.client.now plain w keeps client c.index_mut-worker.ensures.value;
+      worker = picks_there c.args.self.now s c.args.client.now plain w keeps client c.index_mut-worker.ensures.value;
       seen = seen;
-      held = c.in_ok-flow.ensures.held;
-      fixed = c.in_ok-flow.ensures.fixed;
-      served = c.in_ok-flow.ensures.served (place_at site plain.door) plain.bytes plain.parts plain.text (is_at site plain.door s.published w seen) client.stands;
+      most = omega (arith, c.in_ok-flow.ensures.seen, ap length keeps.published);
+      fixed = c.take_published.ensures.fixed;
+      of = c.take_published.ensures.book;
+      served = c.in_ok-flow.ensures.served (place_at site plain.door) plain.bytes plain.parts plain.text (is_at site plain.door s.published c.args.self.now.controller.book w seen) client.stands;
       serving = λ more. c.in_ok-flow.ensures.serving (ap Ok more);
     } in
     omega (
@@ -44,7 +53,7 @@ split_at-requires c =
     )
 
 pub split_at-requires-2 : goal.split_at-requires-2
-split_at-requires-2 c =
+split_at-requires-2 g c =
     let s = c.requires.0 in
     let plain = c.requires.1.0 in
     let keeps = c.requires.1.1.0 in
@@ -52,35 +61,37 @@ split_at-requires-2 c =
     let site = site_of c.args.self.now in
     let w = c.index_mut-worker.result.now in
     let seen = worker_seen c.args.self.now s c.args.client.now plain w keeps client c.index_mut-worker.ensures.value in
-    let v : Taken site c.args.piece.now s plain w c.take.new.worker c.take.new.conn c.in_ok-flow.flow c.no_bytes-link.result.sink.written c.take.new.link.sink.written
-    c.args.self.now.backends c.take.new.backends = record {
+    let v : Taken site c.args.self.now.controller.book c.args.piece.now s plain w c.take_published.new.worker c.take_published.new.client.conn c.in_ok-flow.flow c.no_bytes-link.result.sink.written c.take_published.new.link.sink.written
+    c.args.self.now.backends c.take_published.new.backends = record {
       nothing = c.no_bytes-link.ensures.written;
       told_so = keeps.backends;
-      worker = worker_at c.args.self.now s c.args.client.now plain w keeps client c.index_mut-worker.ensures.value;
+      worker = picks_there c.args.self.now s c.args.client.now plain w keeps client c.index_mut-worker.ensures.value;
       seen = seen;
-      held = c.in_ok-flow.ensures.held;
-      fixed = c.in_ok-flow.ensures.fixed;
-      served = c.in_ok-flow.ensures.served (place_at site plain.door) plain.bytes plain.parts plain.text (is_at site plain.door s.published w seen) client.stands;
+      most = omega (arith, c.in_ok-flow.ensures.seen, ap length keeps.published);
+      fixed = c.take_published.ensures.fixed;
+      of = c.take_published.ensures.book;
+      served = c.in_ok-flow.ensures.served (place_at site plain.door) plain.bytes plain.parts plain.text (is_at site plain.door s.published c.args.self.now.controller.book w seen) client.stands;
       serving = λ more. c.in_ok-flow.ensures.serving (ap Ok more);
     } in
     omega (arith, met_longer v, ap length c.exchanges-exchanges.ensures, ap length c.exchanges.ensures)
 
 pub returns-clause-served : goal.returns-clause-served
-returns-clause-served c = record {
+returns-clause-served g c = record {
   site = refl;
   did = λ s plain keeps client.
       let site = site_of c.args.self.now in
       let w = c.index_mut-worker.result.now in
       let seen = worker_seen c.args.self.now s c.args.client.now plain w keeps client c.index_mut-worker.ensures.value in
-      let v : Taken site c.args.piece.now s plain w c.take.new.worker c.take.new.conn c.in_ok-flow.flow c.no_bytes-link.result.sink.written c.take.new.link.sink.written
-      c.args.self.now.backends c.take.new.backends = record {
+      let v : Taken site c.args.self.now.controller.book c.args.piece.now s plain w c.take_published.new.worker c.take_published.new.client.conn c.in_ok-flow.flow c.no_bytes-link.result.sink.written c.take_published.new.link.sink.written
+      c.args.self.now.backends c.take_published.new.backends = record {
         nothing = c.no_bytes-link.ensures.written;
         told_so = keeps.backends;
-        worker = worker_at c.args.self.now s c.args.client.now plain w keeps client c.index_mut-worker.ensures.value;
+        worker = picks_there c.args.self.now s c.args.client.now plain w keeps client c.index_mut-worker.ensures.value;
         seen = seen;
-        held = c.in_ok-flow.ensures.held;
-        fixed = c.in_ok-flow.ensures.fixed;
-        served = c.in_ok-flow.ensures.served (place_at site plain.door) plain.bytes plain.parts plain.text (is_at site plain.door s.published w seen) client.stands;
+        most = omega (arith, c.in_ok-flow.ensures.seen, ap length keeps.published);
+        fixed = c.take_published.ensures.fixed;
+        of = c.take_published.ensures.book;
+        served = c.in_ok-flow.ensures.served (place_at site plain.door) plain.bytes plain.parts plain.text (is_at site plain.door s.published c.args.self.now.controller.book w seen) client.stands;
         serving = λ more. c.in_ok-flow.ensures.serving (ap Ok more);
       } in
       let place = place_at site plain.door in
@@ -96,14 +107,14 @@ returns-clause-served c = record {
         text = text_after v c.args.said.name.now c.args.said.line;
         serves = serves_so v c.args.said.line c.args.said.name.now c.in_ok-flow.ensures.becomes c.in_ok-flow.ensures.starved;
         keeps = keeps_served c.args.self.now (record c.args.self.now {
-          workers = with_item c.args.self.now.workers c.args.client.now.worker c.take.new.worker;
-          backends = c.take.new.backends;
+          workers = with_item c.args.self.now.workers c.args.client.now.worker c.take_published.new.worker;
+          backends = c.take_published.new.backends;
           statuses = c.push_statuses.new.statuses;
           text = c.push_end.new.text;
-        }) s plain.worker c.take.new.worker (map (λ row. row.status) (rows_of place v.served.took.more)) keeps refl
+        }) s plain.worker c.take_published.new.worker (map (λ row. row.status) (rows_of place v.served.took.more)) keeps refl
             (backends_so v c.in_ok-flow.ensures.becomes c.in_ok-flow.ensures.starved)
-            (ap (λ (ws : List Worker). set ws c.args.client.now.worker c.take.new.worker) keeps.workers ∙ ap (λ (n : ℕ). set s.workers n c.take.new.worker) client.worker)
-            (pass_so v)
+            (ap (λ (n : ℕ). set c.args.self.now.workers.items n c.take_published.new.worker) client.worker)
+            (subst (λ (list : List Entry). HasSeen list (site.doors, site.controller) c.args.self.now.controller.book c.take_published.new.worker) (sym keeps.published) (has_so v))
             (c.in_ok-push_statuses.ensures ∙ ap (λ (l : List ℕ). l ++ map (λ row. row.status) c.split_at.result.1.now) keeps.statuses
             ∙ ap (λ (r : List ServedRow). s.statuses ++ map (λ row. row.status) r) rows);
         printed = printed_all (string_bytes c.args.self.now.text) (string_bytes c.push_rows.new.text) (string_bytes c.push_written.new.text) (string_bytes c.push_end.new.text) _ _ _
@@ -111,11 +122,21 @@ returns-clause-served c = record {
             (c.in_ok-push_written.ensures ∙ ap (λ (l : List ℕ). string_bytes c.push_rows.new.text ++ written_text c.args.said.name.now c.args.said.line l) (c.written.ensures ∙ wrote_so v))
             c.in_ok-push_end.ensures;
         client = λ more. record {
-          worker = client.worker;
-          within = subst (λ (n : ℕ). c.args.client.now.worker < n) (sym (length-set s.workers plain.worker c.take.new.worker)) client.within;
+          worker = c.take_published.ensures.worker ∙ client.worker;
+          within = subst (λ (m : ℕ). m < length (state_after v).workers) (sym c.take_published.ensures.worker) (subst (λ (n : ℕ). c.args.client.now.worker < n) (sym (length-set s.workers plain.worker c.take_published.new.worker.books)) client.within);
           door = client.door;
           stands = stands_so v;
           serving = c.in_ok-flow.ensures.serving (ap Ok more);
         };
       };
 }
+
+pub returns-in_err-flow-clause-stops : goal.returns-in_err-flow-clause-stops
+returns-in_err-flow-clause-stops g c =
+    let k = c.requires in
+    let old = c.args.self.now in
+    let n = c.args.client.now.worker in
+    let new = record old { workers = with_item old.workers n c.take_published.new.worker; backends = c.take_published.new.backends } in
+    err_so c.from_residual.result c.in_err-flow.field-0.0 (λ stop. Unless stop (Halted stop old new)) c.from_residual.ensures.1
+    (halted_by _ old new n c.take_published.new.worker refl refl
+    (there_set old.workers.items n c.take_published.new.worker (worker_within old k.0 c.args.client.now k.1.0 k.1.1.0 k.1.1.1)) c.in_err-flow.ensures.stops.0 c.in_err-flow.ensures.stops.1)

@@ -2,9 +2,9 @@
 use Rattle.std.proofs.Common.{◌≡◌, ℕ, List, ◌++◌, Some, Ok, ap, refl, rules, ◌∙◌, arith}
 use Rattle.gw_answers.proofs.Left.{on_err}
 use Rattle.gw_link.specs.declared.order.UpstreamCall.{UpstreamCall}
+use Rattle.gw_lists.proofs.Beginnings.{begins_with-self, begins_with-trans}
 use Rattle.gw_text.specs.model.Addresses.{Socket}
-use Rattle.gw_worker.proofs.Deciding.{begins_itself}
-use Rattle.gw_worker.proofs.Going.{begins_then, served_then, still_at, took_and_broke, took_then}
+use Rattle.gw_worker.proofs.Going.{served_then, still_at, took_and_broke, took_then}
 use Rattle.gw_worker.proofs.Stepping.{fed_on, goes_itself, goes_then}
 use Rattle.gw_worker.proofs.Turning.{took_none}
 use Rattle.gw_worker.specs.Conns.{StandsFor}
@@ -24,9 +24,11 @@ turns-init g c = record {
   link_later = omega arith;
   up_later = omega arith;
   becomes = g.met.U.Upstream.becomes_self _;
-  later = begins_itself _;
+  later = begins_with-self _;
   fixed = refl;
-  held = refl;
+  book = refl;
+  refused = refl;
+  ahead = refl;
   door = refl;
 }
 
@@ -96,8 +98,10 @@ turns-preserved g c =
       link_later = omega (arith, c.turns.invariant.link_later, c.turn.ensures.link_later);
       up_later = omega (arith, c.turns.invariant.up_later, c.turn.ensures.up_later);
       becomes = g.met.U.Upstream.becomes_then _ _ _ c.turns.invariant.becomes c.turn.ensures.becomes;
-      later = begins_then _ _ _ c.turns.invariant.later c.turn.ensures.later;
+      later = begins_with-trans _ _ _ c.turns.invariant.later c.turn.ensures.later;
       fixed = c.turn.ensures.fixed ∙ c.turns.invariant.fixed;
-      held = c.turn.ensures.held ∙ c.turns.invariant.held;
+      book = c.turn.ensures.book ∙ c.turns.invariant.book;
+      refused = c.in_ok-flow.ensures.ok ∙ c.turns.invariant.refused;
+      ahead = c.turn.ensures.ahead ∙ c.turns.invariant.ahead;
       door = c.turn.ensures.door ∙ c.turns.invariant.door;
     }

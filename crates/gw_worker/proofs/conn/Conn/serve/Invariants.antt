@@ -2,7 +2,7 @@
 use Rattle.std.proofs.Common.{◌≡◌, ◌≤◌, ℕ, List}
 use Rattle.gw_frames.specs.Inlets.{is_over}
 use Rattle.gw_link.specs.Pieces.{Keeps}
-use Rattle.gw_snap.specs.Lists.{BeginsWith}
+use Rattle.gw_snapshots.specs.Lists.{BeginsWith}
 use Rattle.gw_worker.specs.Conns.{GoesOn, IsSettled, StandsFor, turns_left}
 use Rattle.gw_worker.specs.Flows.{Took, outside}
 use Rattle.gw_worker.specs.Workers.{IsAt}
@@ -24,7 +24,9 @@ invariant-turns g l = record {
   becomes : g.U.Upstream.becomes l.fn.up l.up;
   later : BeginsWith l.fn.w.pass.seen l.w.pass.seen;
   fixed : l.w.pass.fixed ≡ l.fn.w.pass.fixed;
-  held : l.w.pass.seen ≡ l.fn.w.pass.seen;
+  book : l.w.pass.book ≡ l.fn.w.pass.book;
+  refused : l.w.pass.refused ≡ l.fn.w.pass.refused;
+  ahead : l.w.pass.ahead ≡ l.fn.w.pass.ahead;
   door : l.self.door ≡ l.fn.self.door;
 }
 

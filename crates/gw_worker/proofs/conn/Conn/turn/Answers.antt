@@ -11,7 +11,7 @@ use Rattle.gw_worker.proofs.Turning.{broke_asked, broke_before, broke_reply, bro
 use Rattle.gw_worker.specs.Conns.{StandsFor}
 use Rattle.gw_worker.specs.Flows.{BrokeOff, Outside, TookTo, outside}
 use Rattle.gw_worker.specs.Workers.{IsAt}
-use Rattle.gw_worker.specs.declared.worker.Worker.{Worker}
+use Rattle.gw_worker.specs.model.Workers.{Worker}
 use Rattle.gw_worker.specs.model.Sessions.{Part, Place}
 use Rattle.gw_worker.proofs.conn.Conn.turn.Goals as goal
 

@@ -1,6 +1,0 @@
--- An interrupted read takes nothing.
-use Rattle.std.specs.Io.KnownBytes.{Keeps}
-use Rattle.gateward.proofs.outside.read_piece.Given as goal
-
-abbrev pub invariant-tries : goal.invariant-tries
-invariant-tries g l = Keeps (g.R.Read.remaining l.fn.reader) (g.R.Read.remaining l.reader)

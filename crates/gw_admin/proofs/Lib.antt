@@ -1,0 +1,6 @@
+pub mod Accepting
+pub mod Answering
+pub mod Causes
+pub mod Linking
+pub mod Parts
+pub mod Turning

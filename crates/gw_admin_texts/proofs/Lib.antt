@@ -1,0 +1,5 @@
+pub mod Explaining
+pub mod Floats
+pub mod Lines
+pub mod Tables
+pub mod Writing

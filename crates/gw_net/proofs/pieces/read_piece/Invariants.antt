@@ -1,0 +1,6 @@
+-- An interrupted read takes nothing.
+use Rattle.std.specs.Io.KnownBytes.{Keeps}
+use Rattle.gw_net.proofs.pieces.read_piece.Given as goal
+
+abbrev pub invariant-tries : goal.invariant-tries
+invariant-tries g l = Keeps (g.R.Read.remaining l.fn.reader) (g.R.Read.remaining l.reader)

@@ -1,0 +1,54 @@
+-- What is known of the objects of the real outside: which of their calls have failed, and of sockets no content.
+use Rattle.std.specs.Prelude.{ℕ, List, Option, Some, None, Result, Ok, Err}
+use Rattle.gw_text.specs.model.Addresses.{Socket}
+use Rattle.gw_link.specs.Faults.{one_more}
+use Rattle.gw_edge.specs.declared.edge.EdgeFault.{EdgeFault}
+use Rattle.gw_edge.specs.declared.edge.EdgeFault.TheVariants.{Failed, NoMemory}
+
+-- The count of faults after a call that answered so: one more where it failed, and else as before.
+abbrev pub after_call : {T E : Type 0} → Result T E → ℕ → ℕ
+after_call (Ok answer) faults = faults
+after_call (Err fault) faults = one_more faults
+
+-- The same of a call that may want memory, which is no fault.
+abbrev pub after_edge_call : {T : Type 0} → Result T EdgeFault → ℕ → ℕ
+after_edge_call (Ok answer) faults = faults
+after_edge_call (Err Failed) faults = one_more faults
+after_edge_call (Err NoMemory) faults = faults
+
+-- A source over a reader.
+pub record SourceState : Type 0 where
+  -- what the reader tells to be left, and how many bytes it gave
+  pub left : Option (List ℕ)
+  pub given : ℕ
+  pub faults : ℕ
+
+-- A sink over a writer.
+pub record SinkState : Type 0 where
+  -- what the writer tells to be written
+  pub written : Option (List ℕ)
+  pub faults : ℕ
+
+-- A link, an acceptor and an edge over sockets.
+pub record SocketState : Type 0 where
+  pub faults : ℕ
+
+-- An upstream over sockets.
+pub record UpstreamState : Type 0 where
+  -- where it is connected
+  pub at : Option Socket
+  pub faults : ℕ
+
+-- After `connect`. One that failed leaves no connection.
+abbrev pub after_connect : {T E : Type 0} → Socket → Result T E → UpstreamState → UpstreamState
+after_connect to (Ok answer) up = record { at = Some to; faults = up.faults }
+after_connect to (Err fault) up = record { at = None; faults = one_more up.faults }
+
+-- A crew in threads.
+pub record CrewState : Type 0 where
+  -- how many jobs were started, and for how many of these it hasn't waited
+  pub started : ℕ
+  pub running : ℕ
+  -- for how many more threads it has memory
+  pub room : ℕ
+  pub faults : ℕ

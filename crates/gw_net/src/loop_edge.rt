@@ -1,0 +1,116 @@
+ghost use Rattle.std.specs.Prelude.{◌≡◌, None, IfOk, OnOk, vec_len};
+ghost use Rattle.gw_net.specs.Real.{SocketState, UpstreamState, after_call, after_edge_call};
+
+use crate::fault_count::FaultCount;
+use crate::streams::address;
+use crate::tcp_acceptor::TcpAcceptor;
+use crate::tcp_upstream::TcpUpstream;
+use gw_edge::{Edge, EdgeFault};
+use gw_link::Failed;
+use gw_text::{NoMemory, Socket};
+use std::alloc::Global;
+use std::io;
+use std::marker::Model;
+use std::net::{Net, TcpListener, TcpStream};
+use std::rt::Clock;
+use std::sync::Arc;
+
+/// Binds sockets of the loopback network, 127.0.0.0/8, and no others. Its upstreams reach backends anywhere.
+#[derive(Drop)]
+pub struct LoopEdge<R: Net + Clock + Clone + Drop> {
+    rt: R,
+    faults: FaultCount,
+}
+
+impl<R: Net + Clock + Clone + Drop> Model for LoopEdge<R> {
+    ghost use Rattle.gw_net.specs.Real.{SocketState};
+
+    ghost Value = { SocketState };
+
+    ghost view = { λ e. record { faults = e.faults } };
+}
+
+impl<R: Net<Listener = TcpListener, Stream = TcpStream> + Clock + Clone + Drop> LoopEdge<R> {
+    /// An edge that has bound nothing.
+    pub fn new(rt: R) -> Self
+        ensures { result ≡ record { faults = 0 } }
+    {
+        LoopEdge {
+            rt,
+            faults: FaultCount::new(),
+        }
+    }
+
+    /// How many calls have failed.
+    pub fn faults(&self) -> u64
+        ensures { result ≡ self.now.faults }
+    {
+        self.faults.get()
+    }
+}
+
+// The listening socket, with as long a queue as the system allows.
+fn listen<R: Net>(rt: &R, at: Socket) -> io::Result<TcpListener>
+    ensures loopback { OnOk result (at.a ≡ 127) }
+{
+    if at.a != 127 {
+        return Err(io::Error::from(io::ErrorKind::AddrNotAvailable));
+    }
+    let listener = mio::net::TcpListener::bind(rt, address(at))?;
+    let listener = TcpListener::from(listener);
+    listener.set_nonblocking(false)?;
+    Ok(listener)
+}
+
+// So many acceptors of the listener.
+fn acceptors_of<R: Clock + Clone + Drop>(
+    alloc: Global,
+    rt: &R,
+    listener: TcpListener,
+    places: usize,
+) -> Result<Vec<TcpAcceptor<R>>, NoMemory>
+    ensures { IfOk result (λ acceptors. vec_len acceptors ≡ places) }
+{
+    let listener = Arc::new(alloc, listener)?;
+    let mut acceptors = Vec::with_capacity(alloc, places)?;
+    'places: for _place in 0..places {
+        let theirs = rt.clone()?;
+        acceptors.push_reserved(TcpAcceptor::new(Arc::try_clone(&listener)?, theirs));
+    }
+    Ok(acceptors)
+}
+
+impl<R: Net<Listener = TcpListener, Stream = TcpStream> + Clock + Clone + Drop> Edge
+    for LoopEdge<R> {
+    type Accept = TcpAcceptor<R>;
+
+    type Up = TcpUpstream<R>;
+
+    ghost faults = { λ e. e.faults };
+
+    fn bind(
+        &mut self,
+        alloc: Global,
+        at: Socket,
+        places: usize,
+    ) -> Result<Vec<TcpAcceptor<R>>, EdgeFault>
+        ensures places { IfOk result (λ acceptors. vec_len acceptors ≡ places) }
+        ensures loopback { OnOk result (at.a ≡ 127) }
+        ensures counted { self.new.faults ≡ after_edge_call result self.old.faults }
+    {
+        match listen(&self.rt, at) {
+            Ok(listener) => Ok(acceptors_of(alloc, &self.rt, listener, places)?),
+            Err(_) => Err(self.faults.fail().into()),
+        }
+    }
+
+    fn upstream(&mut self) -> Result<TcpUpstream<R>, Failed>
+        ensures fresh { IfOk result (λ up. up ≡ record { at = None; faults = 0 }) }
+        ensures counted { self.new.faults ≡ after_call result self.old.faults }
+    {
+        match self.rt.clone() {
+            Ok(theirs) => Ok(TcpUpstream::new(theirs)),
+            Err(_) => Err(self.faults.fail()),
+        }
+    }
+}

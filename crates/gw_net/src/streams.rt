@@ -1,0 +1,20 @@
+use gw_text::Socket;
+use std::io;
+use std::net::{Ipv4Addr, SocketAddr, SocketAddrV4, TcpStream};
+use std::time::Duration;
+
+// How many seconds a peer may be silent, or take nothing, before the call that waits for it fails.
+const MOST_SILENCE: u64 = 30;
+
+/// Makes a stream send each piece at once, and bounds how long its calls wait.
+pub(crate) fn prepare(stream: &TcpStream) -> io::Result<()> {
+    stream.set_nodelay(true)?;
+    let silence = Some(Duration::from_secs(MOST_SILENCE));
+    stream.set_read_timeout(silence)?;
+    stream.set_write_timeout(silence)
+}
+
+/// The socket as std's sockets take it.
+pub(crate) fn address(at: Socket) -> SocketAddr {
+    SocketAddr::V4(SocketAddrV4::new(Ipv4Addr::new(at.a, at.b, at.c, at.d), at.port))
+}

@@ -1,0 +1,138 @@
+ghost use Rattle.std.specs.Prelude.{◌≡◌, ◌≤◌, ◌<◌, None, length, IfOk};
+ghost use Rattle.gw_link.specs.Faults.{HasRisen};
+ghost use Rattle.gw_net.specs.Real.{UpstreamState, after_call, after_connect};
+
+use crate::fault_count::FaultCount;
+use crate::pieces::{read_piece, write_piece};
+use crate::streams::{address, prepare};
+use gw_link::{Failed, Upstream};
+use gw_text::Socket;
+use std::io;
+use std::marker::Model;
+use std::net::{Net, TcpListener, TcpStream};
+use std::time::Duration;
+
+// How many seconds a backend may take to be reached.
+const MOST_REACH: u64 = 5;
+
+// A connection with the backend at a socket.
+#[derive(Drop)]
+struct Connection {
+    at: Socket,
+    stream: TcpStream,
+}
+
+/// Reaches backends over TCP, by one connection at a time. It tells no content. A backend that isn't reached in 5 seconds, is silent
+/// for 30 or takes nothing for as long fails the call that waits for it. Dropping it closes its connection.
+#[derive(Drop)]
+pub struct TcpUpstream<R: Net + Drop> {
+    rt: R,
+    connection: Option<Connection>,
+    faults: FaultCount,
+}
+
+impl<R: Net + Drop> Model for TcpUpstream<R> {
+    ghost use Rattle.std.specs.Prelude.{option_map};
+    ghost use Rattle.gw_net.specs.Real.{UpstreamState};
+
+    ghost Value = { UpstreamState };
+
+    ghost view = { λ u. record { at = option_map (λ c. c.at) u.connection; faults = u.faults } };
+}
+
+impl<R: Net<Listener = TcpListener, Stream = TcpStream> + Drop> TcpUpstream<R> {
+    /// An upstream without a connection.
+    pub fn new(rt: R) -> Self
+        ensures { result ≡ record { at = None; faults = 0 } }
+    {
+        TcpUpstream {
+            rt,
+            connection: None,
+            faults: FaultCount::new(),
+        }
+    }
+
+    /// How many calls have failed.
+    pub fn faults(&self) -> u64
+        ensures { result ≡ self.now.faults }
+    {
+        self.faults.get()
+    }
+}
+
+fn reach<R: Net<Stream = TcpStream>>(rt: &R, to: Socket) -> io::Result<TcpStream> {
+    let most = Duration::from_secs(MOST_REACH);
+    let stream = TcpStream::connect_timeout(rt, &address(to), most)?;
+    prepare(&stream)?;
+    Ok(stream)
+}
+
+impl<R: Net<Listener = TcpListener, Stream = TcpStream> + Drop> Upstream for TcpUpstream<R> {
+    ghost use Rattle.std.specs.Prelude.{◌≤◌, None};
+    ghost use Rattle.std.proofs.Common.{rules};
+    ghost use Rattle.gw_link.specs.Faults.{HasRisen};
+    ghost use Rattle.gw_link.proofs.FaultLemmas.{HasRisen-then, HasRisen-still};
+
+    ghost exchanges = { λ _. None };
+
+    ghost at = { λ u. u.at };
+
+    ghost faults = { λ u. u.faults };
+
+    ghost becomes = { λ a b. a.faults ≤ b.faults };
+
+    ghost refuses = { λ a b call to. HasRisen a.faults b.faults };
+
+    fn connect(&mut self, to: Socket) -> Result<(), Failed>
+        ensures after { self.new ≡ after_connect to result self.old }
+    {
+        self.connection = None;
+        match reach(&self.rt, to) {
+            Ok(stream) => {
+                self.connection = Some(Connection { at: to, stream });
+                Ok(())
+            }
+            Err(_) => Err(self.faults.fail()),
+        }
+    }
+
+    fn send(&mut self, piece: &[u8]) -> Result<usize, Failed>
+        ensures some { IfOk result (λ n. 0 < n) }
+        ensures within { IfOk result (λ n. n ≤ length piece.now) }
+        ensures after { self.new ≡ record self.old { faults = after_call result self.old.faults } }
+    {
+        if let Some(connection) = &mut self.connection {
+            match write_piece(&mut connection.stream, piece) {
+                Ok(taken) if taken > 0 => return Ok(taken),
+                _ => {}
+            }
+        }
+        Err(self.faults.fail())
+    }
+
+    fn receive(&mut self, buf: &mut [u8]) -> Result<usize, Failed>
+        ensures within { IfOk result (λ n. n ≤ length buf.new) }
+        ensures after { self.new ≡ record self.old { faults = after_call result self.old.faults } }
+    {
+        if let Some(connection) = &mut self.connection {
+            if let Ok(taken) = read_piece(&mut connection.stream, buf) {
+                return Ok(taken);
+            }
+        }
+        Err(self.faults.fail())
+    }
+
+    fn close(&mut self)
+        ensures after { self.new ≡ record self.old { at = None } }
+    {
+        self.connection = None;
+    }
+
+    ghost becomes_self = { λ a. Prim.search rules };
+
+    ghost becomes_then = { λ a b c first second. Prim.search rules };
+
+    ghost refuses_later = { λ a b c call to later risen. HasRisen-then a.faults b.faults c.faults later risen };
+
+    ghost refuses_still = { λ a b c call to risen later. HasRisen-still a.faults b.faults c.faults risen later };
+}
