@@ -19,21 +19,9 @@ def stands_on():
     return crates
 
 
-def resident(name="measured"):
-    """How many KiB of memory the newest process of this name holds, or None where there is none."""
-    found = subprocess.run(["pgrep", "-n", "-x", name], stdout=subprocess.PIPE, text=True).stdout.split()
-    if not found:
-        return None
-    with open("/proc/%s/status" % found[0]) as file:
-        for line in file:
-            if line.startswith("VmRSS:"):
-                return int(line.split()[1])
-    return None
-
-
-def run_program(source, below, proofs=None, seen=None):
+def run_program(source, below, proofs=None):
     """The lines that a program prints, whose main.rt is this text and which stands on these crates; `proofs` has the texts of its further
-    files by their paths, and `seen` is called with each line as it comes."""
+    files by their paths."""
     crates = stands_on()
     wanted, left = [], list(below)
     while left:
@@ -57,14 +45,8 @@ def run_program(source, below, proofs=None, seen=None):
                 if name in wanted:
                     file.write("%s: %s\n" % (name, " ".join(crates[name])))
             file.write("measured: %s\n" % " ".join(below))
-        run = subprocess.Popen(["rt", "run"], cwd=program, stdin=subprocess.DEVNULL, stdout=subprocess.PIPE,
-                               stderr=subprocess.STDOUT, text=True)
-        lines = []
-        for line in run.stdout:
-            lines.append(line.rstrip("\n"))
-            if seen:
-                seen(lines[-1])
-        status = run.wait()
-    if status != 0:
-        sys.exit("\n".join(lines)[-4000:])
-    return lines
+        run = subprocess.run(["rt", "run"], cwd=program, stdin=subprocess.DEVNULL, stdout=subprocess.PIPE,
+                             stderr=subprocess.STDOUT, text=True)
+    if run.returncode != 0:
+        sys.exit(run.stdout[-4000:])
+    return run.stdout.splitlines()
