@@ -1,12 +1,15 @@
 -- What a run that serves comes to.
-use Rattle.std.proofs.Common.{◌≡◌, ◌∙◌, ◌+◌, ℕ, zero, suc, arith, List, [], Option, None, Some, Ok, inl, inr, IfSome, ap, append-nil, subst}
+use Rattle.std.proofs.Common.{◌≡◌, ◌∙◌, ◌+◌, ℕ, ℤ, zero, suc, arith, List, [], Option, None, Some, Ok, inl, inr, IfSome, ap, append-nil, subst}
 use Rattle.gw_link.specs.Pieces.{Takes, TakesPart}
 use Rattle.gw_command.specs.Faults.{exit_code, fault_line}
-use Rattle.gw_command.specs.Starts.{Setting, Starts, a_service}
+use Rattle.gw_command.specs.Starts.{Setting, Starts, Task, a_service}
+use Rattle.gw_command.proofs.Starting.{starts_unique}
+use Rattle.gw_replay.specs.declared.ending.Ending.{Ending}
 use Rattle.gw_serve.specs.Serving.{Leaves, job_count, ready_line}
 use Rattle.gw_serve.specs.declared.fault.ServeFault.{ServeFault}
 use Rattle.gw_serve.specs.declared.fault.ServeFault.TheVariants.{Place, Bind, Write, Start, NoMemory}
 use Rattle.gw_text.specs.model.Addresses.{Socket}
+use Rattle.gateward.specs.Outputs.{IsOutput, IsOutputOf}
 use Rattle.gateward.specs.Runs.{HasFailed, HasServed, SetToServe, WritesPiece, service_fault}
 
 -- the words of a service
@@ -57,3 +60,11 @@ write_failed Write code jobs before so_far written sink sink' started started' f
     part_then before so_far written leaves.0 (writes_nothing so_far written sink sink' line)
 write_failed Start code jobs before so_far written sink sink' started started' four is leaves line = absurd (omega (arith, four, is))
 write_failed NoMemory code jobs before so_far written sink sink' started started' four is leaves line = absurd (omega (arith, four, is))
+
+-- who serves has no text of an input
+pub no_output : (words : List (List ℕ)) (setting : Setting) (set : SetToServe words) (input : List ℕ) (told : Option (List ℤ)) (ending : Ending) (text : List ℕ)
+    → Starts words (Ok setting) → IsOutput setting input told ending text → ⊥
+no_output words setting set input told ending text start is =
+    let same : set.setting ≡ setting = cc (starts_unique words (Ok set.setting) (Ok setting) set.start start) in
+    let task : setting.task ≡ a_service set.workers set.conns set.admin = subst (λ (s : Setting). s.task ≡ a_service set.workers set.conns set.admin) same set.task in
+    subst (λ (t : Task). IsOutputOf t setting.doors setting.controller input told ending text) task is

@@ -54,6 +54,8 @@ pub fn run<
     ensures text { result < 2 → ((result ≡ 0) × HasServed (map string_bytes words.now) (K.written sink.old) (K.written sink.new) (W.started crew.old) (W.started crew.new) (W.ended crew.new))
         ⊎ IfSome (S.left source.old) (λ input.
         WritesText result (map string_bytes words.now) input (C.moments clock) (S.left source.new) (K.written sink.old) (K.written sink.new)) }
+    ensures served { result < 2 → SetToServe (map string_bytes words.now) →
+        (result ≡ 0) × HasServed (map string_bytes words.now) (K.written sink.old) (K.written sink.new) (W.started crew.old) (W.started crew.new) (W.ended crew.new) }
     ensures uncounted { result < 2 → snap.new ≡ snap.old }
 
     // Words that are no command's, and doors that break a rule, end the run by this fault or for want of memory, and

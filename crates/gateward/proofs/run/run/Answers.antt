@@ -1,7 +1,7 @@
 -- What a run that comes to its text comes to, and one that serves.
 use Rattle.std.proofs.Common.{arith, inl, inr}
 use Rattle.gateward.proofs.Running.{ended}
-use Rattle.gateward.proofs.Serving.{failed, served, set_to_serve, write_failed}
+use Rattle.gateward.proofs.Serving.{failed, no_output, served, set_to_serve, write_failed}
 use Rattle.gateward.proofs.run.run.Goals as goal
 
 pub returns-in-Ok-output_of-clause-text : goal.returns-in-Ok-output_of-clause-text
@@ -56,3 +56,11 @@ returns-in-Some-clause-front g c = λ four.
       set_to_serve _ _ _ _ _ c.in-Ok.ensures.start c.in-Some.ensures.some,
       write_failed end.0 _ _ _ end.1.1.1.0 _ _ _ _ _ four end.1.0 end.1.1.1.1.0 end.1.1.1.1.1,
     )
+
+pub returns-in-Some-clause-served : goal.returns-in-Some-clause-served
+returns-in-Some-clause-served g c = λ few set.
+    let end = c.run_service.ensures.served few in
+    (end.0, served _ _ _ _ _ _ c.setting.view_is c.in-Ok.ensures.start c.in-Some.ensures.some _ _ _ _ _ end.1.0 end.1.1.0 end.1.1.1)
+
+pub returns-in-Ok-output_of-clause-served : goal.returns-in-Ok-output_of-clause-served
+returns-in-Ok-output_of-clause-served g c = λ few set. absurd (no_output _ _ set _ _ _ _ c.in-Ok.ensures.start c.in-Ok-output_of.ensures.output)
