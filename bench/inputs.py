@@ -112,8 +112,8 @@ def build():
 
 
 def environment(command):
-    """The environment of a command: for the program, with what bin/gateward sets for its memory."""
-    if command[0] != PROGRAM:
+    """The environment of a command: for the program, with what bin/gateward sets for its memory, which is nothing for `serve`."""
+    if command[0] != PROGRAM or command[1] == "serve":
         return None
     with open(os.path.join(TOP, "bin", "gateward")) as file:
         memory = [text.rstrip()[len("memory="):] for text in file if text.startswith("memory=")]

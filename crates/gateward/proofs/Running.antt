@@ -10,7 +10,7 @@ use Rattle.gw_command.specs.declared.fault.Fault.TheVariants.{TooManyDoors, Writ
 use Rattle.gw_replay.specs.Outputs.{AreCounted}
 use Rattle.gw_replay.specs.declared.ending.Ending.{Ending}
 use Rattle.gw_replay.specs.declared.ending.Ending.TheVariants.{Done, Place, Ahead}
-use Rattle.gw_snapshots.specs.Counts.{Counts}
+use Rattle.gw_snap.specs.Counts.{Counts}
 
 -- all that was left was read
 read_whole : (left after : Option (List ℕ)) (items : List ℕ) → Gives left items after → IsAtEnd after → IfSome left (λ input. (items ≡ input) × (after ≡ Some []))

@@ -9,7 +9,7 @@ mod run;
 
 use gw_command::Fault;
 use gw_net::{LoopEdge, StdSink, StdSource, ThreadCrew, WallClock};
-use gw_snapshots::SnapFaults;
+use gw_snap::SnapFaults;
 use std::alloc::AllocError;
 use std::io::ErrorKind;
 use std::process::ExitCode;

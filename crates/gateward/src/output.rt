@@ -9,7 +9,7 @@ use gw_command::{Setting, Task};
 use gw_link::{Clock, MOST_INPUT};
 use gw_replay::{Ending, Replayed, replay_output};
 use gw_report::{Output, explanation_output, status_output};
-use gw_snapshots::SnapFaults;
+use gw_snap::SnapFaults;
 use gw_text::NoMemory;
 use std::alloc::Global;
 use std::sync::Wait;

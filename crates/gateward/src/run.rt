@@ -14,7 +14,7 @@ use gw_edge::{Acceptor, Crew, Edge};
 use gw_link::{Clock, Link, ReadFault, Sink, Source, Upstream, read_all, write_all};
 use gw_replay::{Ending, Replayed};
 use gw_serve::{ServeFault, Service, serve};
-use gw_snapshots::SnapFaults;
+use gw_snap::SnapFaults;
 use std::alloc::Global;
 use std::sync::Wait;
 use std::thread::Threads;

@@ -2,12 +2,13 @@
 use crate::run::run;
 use gw_edge::{MemCrew, MemEdge};
 use gw_link::{MemClock, MemSink, MemSource};
-use gw_snapshots::SnapFaults;
+use gw_snap::SnapFaults;
 use std::alloc::{AllocError, Global};
 use std::sync::Wait;
 use std::thread::Threads;
 
 mod faults;
+mod serving;
 
 // What a run left: its exit code, what it wrote, and what it left of its input.
 #[derive(Drop)]
@@ -17,16 +18,26 @@ struct Ran {
     source: MemSource,
 }
 
-// A run of one word.
-fn run_word<R: Wait + Threads + Clone + Drop + Send + Sync + 'static>(
+// The words of a run.
+fn words_of(alloc: Global, texts: &[&str]) -> Result<Vec<String>, AllocError> {
+    let mut words = Vec::new(alloc);
+    for text in texts {
+        words.push(String::from_str(alloc, text)?)?;
+    }
+    Ok(words)
+}
+
+// A run of these words over an edge and a crew.
+fn run_over<R: Wait + Threads + Clone + Drop + Send + Sync + 'static>(
     rt: &R,
     alloc: Global,
-    word: &str,
+    texts: &[&str],
     mut source: MemSource,
     mut sink: MemSink,
+    edge: &mut MemEdge,
+    crew: &mut MemCrew,
 ) -> Result<Ran, AllocError> {
-    let mut words = Vec::new(alloc);
-    words.push(String::from_str(alloc, word)?)?;
+    let words = words_of(alloc, texts)?;
     let clock = MemClock::new(Vec::new(alloc));
     let mut snap = SnapFaults::new();
     let exit_code = run(
@@ -36,8 +47,8 @@ fn run_word<R: Wait + Threads + Clone + Drop + Send + Sync + 'static>(
         &mut source,
         &mut sink,
         clock,
-        &mut MemEdge::new(alloc, Vec::new(alloc)),
-        &mut MemCrew::new(Vec::new(alloc)),
+        edge,
+        crew,
         &mut snap,
     );
     Ok(Ran {
@@ -45,4 +56,17 @@ fn run_word<R: Wait + Threads + Clone + Drop + Send + Sync + 'static>(
         sink,
         source,
     })
+}
+
+// A run of one word, which comes to no edge and no crew.
+fn run_word<R: Wait + Threads + Clone + Drop + Send + Sync + 'static>(
+    rt: &R,
+    alloc: Global,
+    word: &str,
+    source: MemSource,
+    sink: MemSink,
+) -> Result<Ran, AllocError> {
+    let mut edge = MemEdge::new(alloc, Vec::new(alloc));
+    let mut crew = MemCrew::new(Vec::new(alloc));
+    run_over(rt, alloc, &[word], source, sink, &mut edge, &mut crew)
 }

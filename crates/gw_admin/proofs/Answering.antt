@@ -1,15 +1,15 @@
 -- How requests are answered over what a pass has seen.
-use Rattle.std.proofs.Common.{◌≡◌, ◌∙◌, ◌+◌, ◌-◌, ◌<◌, ◌≤◌, ℕ, ℤ, pos, List, [], ◌∷◌, ◌++◌, length, take, drop, map, Option, None, Some, refl, sym, ap, ap₂, subst, arith, IfOk, Result}
+use Rattle.std.proofs.Common.{◌≡◌, ◌∙◌, ◌≤◌, ℕ, ℤ, pos, List, [], ◌∷◌, length, take, drop, Option, None, Some, refl, sym, ap, ap₂, subst, arith}
 use Rattle.std.proofs.Math.Logic.{∥∥₁_elim}
 use Rattle.std.proofs.lemmas.List.{length-map, length-take-le, take-append-drop, take-take}
 use Rattle.std.specs.Coded.{Coded, Coded-set, codes}
 use Rattle.gw_admin_texts.specs.declared.resource.Destination.{Destination}
 use Rattle.gw_admin_texts.specs.declared.resource.Destination.TheVariants.{Found}
-use Rattle.gw_admin_texts.specs.declared.resource.Resource.TheVariants.{Changes, Explain, Status as Statuses, Table}
-use Rattle.gw_admin_texts.specs.model.Listings.{status_reply, table_reply}
-use Rattle.gw_admin_texts.specs.model.Questions.{IsQuestion, Question, explanation_reply}
+use Rattle.gw_admin_texts.specs.declared.resource.Resource.TheVariants.{Changes, Explain, Status as Statuses}
+use Rattle.gw_admin_texts.specs.model.Listings.{status_reply}
+use Rattle.gw_admin_texts.specs.model.Questions.{IsQuestion, Question}
 use Rattle.gw_admin_texts.specs.model.Replies.{Reply}
-use Rattle.gw_admin_texts.specs.model.Submissions.{Answer, changes_reply}
+use Rattle.gw_admin_texts.specs.model.Submissions.{changes_reply}
 use Rattle.gw_hub.specs.Turns.{ComeInTurn, IsReceipt, event_lines}
 use Rattle.gw_hub.specs.declared.receipt.Receipt.{Receipt}
 use Rattle.gw_link.specs.Moments.{Ticks, TicksInTurn}
@@ -22,7 +22,7 @@ use Rattle.gw_status.specs.StatusText.{statuses_text}
 use Rattle.gw_store.specs.declared.event.Entry.{Entry}
 use Rattle.gw_text.specs.model.Doors.{Door}
 use Rattle.gw_text.specs.model.Statuses.{statuses_of}
-use Rattle.gw_admin.specs.Answering.{IsAnswered, IsExplained, place_of}
+use Rattle.gw_admin.specs.Answering.{IsAnswered, IsExplained}
 use Rattle.gw_admin.specs.model.Sessions.{Handled, IsHandledBy, Place, moments_by, reply_by}
 
 coded_tables : Coded (List Rows)

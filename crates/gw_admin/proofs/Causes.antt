@@ -1,8 +1,8 @@
 -- Why calls are given up.
-use Rattle.std.proofs.Common.{◌≡◌, ◌∙◌, ◌<◌, ◌≤◌, ℕ, ◌⊎◌, length, refl, subst, sym, inl, inr, ap, arith, OnErr, IfErr, IsErrAnd, Result, Ok, Err}
-use Rattle.gw_link.specs.Faults.{HasRisen, last_count}
-use Rattle.gw_snapshots.specs.Counts.{Rises}
-use Rattle.gw_admin.specs.Faults.{CountsAhead, CountsAnswer, CountsAs, CountsNothing, CountsPlace, CountsUnanswered, IsCause, IsCauseOf, IsOfLink, PassSeen}
+use Rattle.std.proofs.Common.{◌≡◌, ◌∙◌, ◌≤◌, ℕ, ◌⊎◌, refl, subst, sym, inl, inr, arith, OnErr, IfErr, IsErrAnd, Result, Ok, Err}
+use Rattle.gw_link.specs.Faults.{HasRisen}
+use Rattle.gw_snap.specs.Counts.{Rises}
+use Rattle.gw_admin.specs.Faults.{CountsAhead, CountsAs, CountsNothing, CountsPlace, CountsUnanswered, IsCause, IsCauseOf, IsOfLink, PassSeen}
 use Rattle.gw_admin.specs.declared.fault.AdminFault.{AdminFault}
 use Rattle.gw_admin.specs.declared.fault.AdminFault.TheVariants.{Read, Write, Place, NoMemory, Ahead}
 

@@ -1,32 +1,21 @@
 -- What a link's bytes make of a connection.
-use Rattle.std.proofs.Common.{◌≡◌, ◌∙◌, ◌+◌, ◌<◌, ◌≤◌, ◌==◌, ℕ, Bool, true, false, List, [], ◌∷◌, ◌++◌, length, take, map, Option, Some, None, refl, sym, ap, subst, arith, option_map, IfSome}
+use Rattle.std.proofs.Common.{◌≡◌, ◌∙◌, ◌<◌, ◌≤◌, ◌==◌, ℕ, Bool, true, false, List, [], ◌∷◌, length, take, Option, Some, None, refl, ap, subst, arith}
 use Rattle.std.proofs.lemmas.List.{length-take-le}
 use Rattle.gw_frames.specs.declared.ended.Ended.TheVariants.{Closed}
 use Rattle.gw_frames.specs.model.Requests.{Asks, Step, a_head, ended}
-use Rattle.gw_link.specs.Pieces.{Gives, IsAtEnd, Keeps}
+use Rattle.gw_link.proofs.KeptLemmas.{takes_kept}
+use Rattle.gw_link.specs.Pieces.{Keeps}
 use Rattle.gw_message_laws.proofs.Limits.{open_limit}
 use Rattle.gw_message_laws.specs.declared.requests.TheConstants.{MOST_OPEN_BYTES}
-use Rattle.gw_requests.proofs.Ends.{over_ends}
+use Rattle.gw_message_laws.proofs.Ends.{over_ends}
 use Rattle.gw_admin.specs.Conns.{Outside, Turned, outside}
 use Rattle.gw_admin.specs.declared.conn.Conn.{Conn}
 use Rattle.gw_admin.specs.declared.conn.Flow.{Flow}
 use Rattle.gw_admin.specs.declared.conn.Flow.TheVariants.{More}
 use Rattle.gw_admin.specs.Serving.{HasBroken, HasServed, Ran, Stopped}
 use Rattle.gw_admin.specs.declared.serve.AdminSession.{AdminSession}
-use Rattle.gw_admin.specs.model.Sessions.{Part, Place, step_of}
-use Rattle.gw_admin.proofs.Turning.{no_bytes, takes_kept}
-
--- what is left stays so
-pub gives_kept : (before middle after : Option (List ℕ)) (piece : List ℕ) → Gives before piece middle → Keeps middle after → Gives before piece after
-gives_kept None middle after piece gave kept = tt
-gives_kept (Some told) None after piece gave kept = absurd (cc gave)
-gives_kept (Some told) (Some m) after piece gave kept = gave ∙ ap (option_map (λ rest. piece ++ rest)) (sym kept)
-
--- nothing is left, where it tells
-pub end_kept : (left middle after : Option (List ℕ)) (piece : List ℕ) → Gives left piece middle → IsAtEnd middle → Keeps middle after → IfSome left (λ told. IsAtEnd after)
-end_kept None middle after piece gave is kept = tt
-end_kept (Some told) None after piece gave is kept = absurd (cc gave)
-end_kept (Some told) (Some m) after piece gave is kept = subst IsAtEnd (sym kept) is
+use Rattle.gw_admin.specs.model.Sessions.{Part, Place}
+use Rattle.gw_admin.proofs.Turning.{no_bytes}
 
 -- no bytes are the end
 pub empty_size : (n : ℕ) (buffer : List ℕ) → n ≤ length buffer → (length (take n buffer) == 0) ≡ true → n ≡ 0

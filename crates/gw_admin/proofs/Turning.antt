@@ -1,5 +1,5 @@
 -- What a connection's turns add to what it stands for.
-use Rattle.std.proofs.Common.{◌≡◌, ◌∙◌, ◌+◌, ◌<◌, ◌≤◌, ℕ, ℤ, Bool, List, [], ◌∷◌, ◌++◌, length, map, take, drop, Option, None, Some, refl, sym, ap, subst, arith, append-nil, append_assoc, inl, inr, true, ◌==◌}
+use Rattle.std.proofs.Common.{◌≡◌, ◌∙◌, ◌+◌, ◌≤◌, ℕ, ℤ, Bool, List, [], ◌∷◌, ◌++◌, length, map, take, drop, Option, None, Some, refl, sym, ap, subst, arith, append-nil, append_assoc, true, ◌==◌}
 use Rattle.std.proofs.lemmas.Bool.Decides.{nat_tests}
 use Rattle.std.proofs.lemmas.List.{take-append-drop}
 use Rattle.gw_admin_texts.specs.model.Replies.{reply_text}
@@ -8,15 +8,15 @@ use Rattle.gw_frames.specs.declared.ended.Ended.{Ended as End}
 use Rattle.gw_frames.specs.declared.ended.Ended.TheVariants.{Closed}
 use Rattle.gw_frames.specs.declared.inlet.Inlet.{Inlet}
 use Rattle.gw_frames.specs.declared.step.Step.{Step}
-use Rattle.gw_frames.specs.model.Requests.{Asks, Request, Step as Plain, a_head, an_ask, end_behind, ended}
+use Rattle.gw_frames.specs.model.Requests.{Asks, Request, Step as Plain, a_head, an_ask, ended}
+use Rattle.gw_link.proofs.KeptLemmas.{keeps_self, takes_kept}
 use Rattle.gw_link.proofs.PieceLemmas.{Takes-more, Takes-nothing}
-use Rattle.gw_link.specs.Faults.{HasRisen}
 use Rattle.gw_link.specs.Moments.{TicksInTurn}
 use Rattle.gw_link.specs.Pieces.{Keeps, Takes, TakesPart}
 use Rattle.gw_lists.proofs.Beginnings.{begins_with-self}
 use Rattle.gw_lists.specs.Lists.{BeginsWith}
 use Rattle.gw_report.proofs.Applying.{in_turn_on}
-use Rattle.gw_requests.proofs.Ends.{all_of_ended, behind_ask}
+use Rattle.gw_message_laws.proofs.Ends.{all_of_ended, behind_ask}
 use Rattle.gw_store.specs.declared.event.Entry.{Entry}
 use Rattle.gw_admin.specs.Answering.{IsReplied, TicksAtMostOnce}
 use Rattle.gw_admin.specs.Conns.{Adds, BrokeOff, Flows, IsBehind, IsReading, Leaves, Outside, StandsFor, Turned, outside}
@@ -25,12 +25,6 @@ use Rattle.gw_admin.specs.declared.conn.Flow.{Flow}
 use Rattle.gw_admin.specs.declared.conn.Flow.TheVariants.{More, Ended}
 use Rattle.gw_admin.specs.model.Sessions.{Answered, Part, Place, a_request, asks_behind, is_last, moments_of, reply_of, step_of, written_behind}
 use Rattle.gw_admin.proofs.Parts.{answered_append, asks_append, moments_append, steps_append, written_append}
-
--- what is written stays so
-pub takes_kept : (before middle after : Option (List ℕ)) (piece : List ℕ) → Takes before piece middle → Keeps middle after → Takes before piece after
-takes_kept None middle after piece took kept = tt
-takes_kept (Some told) None after piece took kept = absurd (cc took)
-takes_kept (Some told) (Some m) after piece took kept = kept ∙ took
 
 -- where nothing was written
 pub keeps_takes : (before after : Option (List ℕ)) → Keeps before after → Takes before [] after
@@ -226,10 +220,6 @@ module _ (p : Place) (c : Conn) (q : Request) (text : List ℕ) (seen seen' : Li
       broke_within p c' bytes parts (a_request q replied.handled) text _ _
       (subst (λ (i : Inlet). InletStandsFor i bytes (map step_of parts ++ an_ask q ∷ [])) (sym inlet) stands.inlet) answered_one ticks_one text_one wrote
 
-pub keeps_self : {A : Type 0} (told : Option A) → Keeps told told
-keeps_self None = tt
-keeps_self (Some x) = refl
-
 -- a list without bytes is empty
 pub no_bytes : (xs : List ℕ) → (length xs == 0) ≡ true → xs ≡ []
 no_bytes [] is = refl
@@ -251,12 +241,6 @@ takes_text before after text took = subst (λ (t : List ℕ). Takes before t aft
 pub all_behind : (over : Bool) (bytes : List ℕ) (steps : List Plain) (step : Step) → ended steps ≡ None → Asks a_head 0 bytes over (with_step steps step)
     → Asks a_head 0 bytes over (steps ++ given step)
 all_behind over bytes steps step none all = subst (λ (e : Option End). Asks a_head 0 bytes over (unless_ended e steps (given step))) none all
-
--- what is told stays so, and then again
-pub keeps_then : {A : Type 0} (a b c : Option A) → Keeps a b → Keeps b c → Keeps a c
-keeps_then None b c first later = tt
-keeps_then (Some x) None c first later = absurd (cc first)
-keeps_then (Some x) (Some y) c first later = later ∙ first
 
 -- a connection that is given up where nothing came
 pub still_open : (p : Place) (c : Conn) (bytes : List ℕ) (parts : List Part) (o : Outside) → IsReading c bytes parts → BrokeOff p c bytes parts o o

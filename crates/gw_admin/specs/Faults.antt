@@ -3,10 +3,10 @@ use Rattle.std.specs.Prelude.{◌≡◌, ◌<◌, List, length, ℕ, Result, Ok,
 use Rattle.gw_hub.specs.declared.receipt.HubFault.{HubFault}
 use Rattle.gw_hub.specs.declared.receipt.HubFault.TheVariants as hub
 use Rattle.gw_link.specs.Faults.{HasRisen}
-use Rattle.gw_snapshots.specs.Counts.{Rises}
-use Rattle.gw_snapshots.specs.Lists.{Seen}
-use Rattle.gw_snapshots.specs.declared.fault.OpenFault.{OpenFault}
-use Rattle.gw_snapshots.specs.declared.fault.OpenFault.TheVariants as reading
+use Rattle.gw_snap.specs.Counts.{Rises}
+use Rattle.gw_snap.specs.Lists.{Seen}
+use Rattle.gw_snap.specs.declared.fault.OpenFault.{OpenFault}
+use Rattle.gw_snap.specs.declared.fault.OpenFault.TheVariants as reading
 use Rattle.gw_store.specs.declared.event.Entry.{Entry}
 use Rattle.gw_text.specs.model.Doors.{Door}
 use Rattle.gw_admin.specs.declared.fault.AdminFault.{AdminFault}

@@ -16,7 +16,7 @@ use gw_frames::Request;
 use gw_hub::{Hub, HubName};
 use gw_link::Clock;
 use gw_match::Tables;
-use gw_snapshots::Pass;
+use gw_snap::Pass;
 use std::alloc::Global;
 use std::sync::Wait;
 

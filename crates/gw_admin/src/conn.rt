@@ -18,7 +18,7 @@ use gw_hub::{Hub, HubName};
 use gw_link::{Clock, Link, write_whole};
 use gw_match::Tables;
 use gw_replies::write_own;
-use gw_snapshots::Pass;
+use gw_snap::Pass;
 use gw_text::{NoMemory, Text};
 use std::alloc::Global;
 use std::sync::Wait;

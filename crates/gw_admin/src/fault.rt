@@ -1,5 +1,5 @@
 use gw_hub::HubFault;
-use gw_snapshots::OpenFault;
+use gw_snap::OpenFault;
 use gw_text::NoMemory;
 
 /// Why a connection was given up.

@@ -15,7 +15,7 @@ use gw_frames::Ended;
 use gw_hub::{Hub, HubName};
 use gw_link::{Clock, Link};
 use gw_match::Tables;
-use gw_snapshots::Pass;
+use gw_snap::Pass;
 use std::alloc::Global;
 use std::sync::Wait;
 

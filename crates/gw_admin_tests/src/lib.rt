@@ -2,12 +2,14 @@
 #![tactic(auto)]
 
 #[cfg(test)]
+mod accepting;
+#[cfg(test)]
 mod endpoint;
 #[cfg(test)]
 mod events;
 #[cfg(test)]
-mod failing;
-#[cfg(test)]
 mod opened;
+#[cfg(test)]
+mod starved;
 #[cfg(test)]
 mod texts;

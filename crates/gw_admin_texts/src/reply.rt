@@ -1,10 +1,9 @@
 //! A reply of the admin endpoint, and its bytes.
 ghost use Rattle.std.specs.Prelude.{◌≡◌, [], None, IfOk};
-ghost use Rattle.gw_replies.specs.model.Written.{phrase_of};
 ghost use Rattle.gw_admin_texts.specs.model.Replies as replies;
 
 use crate::resource::Resource;
-use gw_replies::{Response, write_reply};
+use gw_replies::{Response, phrase_of, write_reply};
 use gw_text::{Field, Fields, NoMemory, Text};
 use std::alloc::Global;
 use std::marker::Model;
@@ -49,21 +48,6 @@ impl Status {
             Status::MethodNotAllowed => 405,
             Status::UnprocessableContent => 422,
             Status::ServiceUnavailable => 503,
-        }
-    }
-
-    // The phrase of its code.
-    #[tactic(auto, unfolding(gw_replies::specs::model::Written::phrase_of))]
-    fn phrase(self) -> &'static str
-        ensures { result.now ≡ phrase_of (replies.code_of self) }
-    {
-        match self {
-            Status::Ok => "OK",
-            Status::BadRequest => "Bad Request",
-            Status::NotFound => "Not Found",
-            Status::MethodNotAllowed => "Method Not Allowed",
-            Status::UnprocessableContent => "Unprocessable Content",
-            Status::ServiceUnavailable => "Service Unavailable",
         }
     }
 }
@@ -117,7 +101,7 @@ impl Reply {
         } = self;
         Ok(Response {
             code: status.code(),
-            phrase: Text::of(alloc, status.phrase())?,
+            phrase: Text::of(alloc, phrase_of(status.code()))?,
             fields: fields(alloc, allow)?,
             body,
             length: None,

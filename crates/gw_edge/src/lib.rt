@@ -9,7 +9,6 @@ mod mem_acceptor;
 mod mem_crew;
 mod mem_edge;
 mod next;
-mod plan;
 
 pub use acceptor::Acceptor;
 pub use crew::{Crew, Work, start};

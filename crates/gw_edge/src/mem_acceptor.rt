@@ -3,8 +3,7 @@ ghost use Rattle.gw_link.specs.Memory.{first_call, is_failing};
 ghost use Rattle.gw_edge.specs.EdgeMemory.{AcceptorState, told, after_accept, after_closing};
 
 use crate::acceptor::Acceptor;
-use crate::plan::Plan;
-use gw_link::{Failed, MemLink};
+use gw_link::{Failed, MemLink, Plan};
 use std::alloc::Global;
 use std::marker::Model;
 use std::sync::{Arc, OnceLock};

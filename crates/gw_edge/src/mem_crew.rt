@@ -5,7 +5,7 @@ ghost use Rattle.gw_edge.specs.EdgeMemory.{CrewState};
 
 use crate::crew::Crew;
 use crate::edge::EdgeFault;
-use crate::plan::Plan;
+use gw_link::Plan;
 use std::marker::Model;
 use std::sync::Wait;
 use std::thread::{JoinHandle, Threads};

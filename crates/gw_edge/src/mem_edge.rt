@@ -5,8 +5,7 @@ ghost use Rattle.gw_edge.specs.EdgeMemory.{EdgeState};
 
 use crate::edge::{Edge, EdgeFault};
 use crate::mem_acceptor::{Left, MemAcceptor};
-use crate::plan::Plan;
-use gw_link::{Failed, MemLink, MemUpstream, Upstream};
+use gw_link::{Failed, MemLink, MemUpstream, Plan, Upstream};
 use gw_text::{NoMemory, Socket};
 use std::alloc::Global;
 use std::marker::Model;

@@ -143,6 +143,8 @@ fn a_crew_runs_its_jobs_in_turn(rt: HostRuntime) -> Result<(), Fail> {
                 .all(|link| link.written() == b"first".as_slice())
     );
     assert!(rt; edge.closed(2).is_some_and(|links| links.is_empty()) && edge.closed(0).is_none());
+    crew.refused();
+    assert!(rt; crew.faults() == 2 && crew.started() == 2);
     Ok(())
 }
 

@@ -5,7 +5,7 @@ use Rattle.gw_match.specs.model.Telling.{change_of, world_after}
 use Rattle.gw_resolve.specs.Cores.{Core}
 use Rattle.gw_resolve.specs.declared.outcome.Outcome.{Outcome}
 use Rattle.gw_resolve.specs.declared.outcome.Outcome.TheVariants.{Accepted, Skipped}
-use Rattle.gw_snapshots.specs.Lists.{BeginsWith, Book, Lists}
+use Rattle.gw_snap.specs.Lists.{BeginsWith, Book, Lists}
 use Rattle.gw_store.specs.Events.{Read, a_change, is_skipped}
 use Rattle.gw_store.specs.SeenEvents.{seen_event}
 use Rattle.gw_store.specs.declared.event.Entry.{Entry}

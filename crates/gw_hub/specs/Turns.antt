@@ -4,8 +4,8 @@ use Rattle.gw_json.specs.declared.refusal.Refusal.{Refusal}
 use Rattle.gw_json.specs.Words.{Fails}
 use Rattle.gw_match.specs.model.Telling.{world_after}
 use Rattle.gw_resolve.specs.declared.outcome.Outcome.{Outcome}
-use Rattle.gw_snapshots.specs.Counts.{Rises}
-use Rattle.gw_snapshots.specs.Lists.{Seen}
+use Rattle.gw_snap.specs.Counts.{Rises}
+use Rattle.gw_snap.specs.Lists.{Seen}
 use Rattle.gw_store.specs.Events.{answer}
 use Rattle.gw_store.specs.Lines.{is_blank, lines_of}
 use Rattle.gw_store.specs.declared.event.Entry.{Entry}

@@ -1,6 +1,6 @@
 ghost use Rattle.std.specs.Prelude.{◌≡◌, ◌+◌, ◌<◌, ◌≤◌, length, map, take, vec_len, vec_capacity, IfOk, IfErr, OnOk, OnErr};
 ghost use Rattle.gw_match.specs.model.Telling.{world_after};
-ghost use Rattle.gw_snapshots.specs.Lists.{BeginsWith};
+ghost use Rattle.gw_snap.specs.Lists.{BeginsWith};
 ghost use Rattle.gw_status.specs.StatusText.{statuses_text};
 ghost use Rattle.gw_text.specs.model.Statuses.{statuses_of};
 ghost use Rattle.gw_hub.specs.Turns.{ComeInTurn, ComesOf, IsReceipt, KeepsChanges, LeavesAsFault, LeavesWithoutInput, event_lines};
@@ -12,7 +12,7 @@ use crate::receipt::{HubFault, Receipt};
 use gw_json::Refusal;
 use gw_match::Tables;
 use gw_resolve::Outcome;
-use gw_snapshots::Pass;
+use gw_snap::Pass;
 use gw_status::write_statuses;
 use gw_text::{NoMemory, Second, Text};
 use std::alloc::Global;

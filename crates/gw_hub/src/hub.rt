@@ -1,6 +1,6 @@
 ghost use Rattle.std.specs.Prelude.{◌≡◌, ◌≤◌, length, take, IfOk, IfErr, OnOk};
 ghost use Rattle.gw_match.specs.model.Telling.{world_after};
-ghost use Rattle.gw_snapshots.specs.Lists.{BeginsWith};
+ghost use Rattle.gw_snap.specs.Lists.{BeginsWith};
 ghost use Rattle.gw_status.specs.StatusText.{statuses_text};
 ghost use Rattle.gw_text.specs.model.Statuses.{statuses_of};
 ghost use Rattle.gw_hub.specs.Turns.{IsReceipt, LeavesAsFault, LeavesWithoutInput};
@@ -10,7 +10,7 @@ use crate::desk::Desk;
 use crate::name::HubName;
 use crate::receipt::{HubFault, Receipt};
 use gw_match::Tables;
-use gw_snapshots::Pass;
+use gw_snap::Pass;
 use gw_text::{Second, Text};
 use std::alloc::Global;
 use std::marker::PhantomData;

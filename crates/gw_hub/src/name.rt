@@ -1,5 +1,5 @@
 ghost use Rattle.std.specs.Prelude.{ℕ, List};
-ghost use Rattle.gw_snapshots.specs.Lists.{Book};
+ghost use Rattle.gw_snap.specs.Lists.{Book};
 ghost use Rattle.gw_text.specs.model.Doors.{Door};
 
 use std::marker::Brand;

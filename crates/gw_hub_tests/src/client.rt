@@ -5,7 +5,7 @@ use super::opened::Opened;
 use gw_hub::{Hub, HubFault, HubName, Outcome, Receipt};
 use gw_json::Refusal;
 use gw_match::Tables;
-use gw_snapshots::Pass;
+use gw_snap::Pass;
 use gw_text::{NoMemory, Second};
 use std::alloc::Global;
 use std::sync::Wait;

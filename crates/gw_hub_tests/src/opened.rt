@@ -1,11 +1,11 @@
 //! A controller for one door, and the passes of its opening.
 ghost use Rattle.std.specs.Prelude.{◌≡◌, ◌<◌, ◌∷◌, ℕ, List, IfSome};
-ghost use Rattle.gw_snapshots.specs.Lists.{copies, fresh};
+ghost use Rattle.gw_snap.specs.Lists.{copies, fresh};
 ghost use Rattle.gw_text.specs.model.Doors.{Door as Plain};
 
 use gw_hub::Controller;
 use gw_match::Tables;
-use gw_snapshots::{Pass, Passes, SnapFaults};
+use gw_snap::{Pass, Passes, SnapFaults};
 use gw_text::{Door, Doors, Text};
 use std::alloc::Global;
 use std::sync::Wait;

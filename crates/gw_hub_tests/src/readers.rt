@@ -4,7 +4,7 @@ ghost use Rattle.std.specs.Prelude.{◌≡◌};
 use super::opened::{Opened, open};
 use gw_hub::{Hub, HubName};
 use gw_match::Tables;
-use gw_snapshots::Pass;
+use gw_snap::Pass;
 use gw_text::{NoMemory, Second};
 use std::alloc::Global;
 use std::marker::{Brand, PhantomData};

@@ -28,6 +28,7 @@ pub use mem_sink::MemSink;
 pub use mem_source::MemSource;
 pub use mem_upstream::MemUpstream;
 pub use order::{Order, UpstreamCall};
+pub use plan::Plan;
 pub use sink::{Sink, write_all};
 pub use source::{MOST_INPUT, MOST_PIECE, ReadFault, Source, read_all};
 pub use upstream::{Upstream, send_whole};

@@ -5,7 +5,7 @@ use std::marker::Model;
 
 /// Which calls of a form in memory fail, the number of the next call, and how many have failed.
 #[derive(Drop)]
-pub(crate) struct Plan {
+pub struct Plan {
     fails: Vec<u64>,
     next: u64,
     faults: u64,
@@ -19,7 +19,7 @@ impl Model for Plan {
 
 impl Plan {
     /// The calls with these numbers fail, the first call being 0.
-    pub(crate) fn new(fails: Vec<u64>) -> Self
+    pub fn new(fails: Vec<u64>) -> Self
         ensures { result ≡ first_call fails.items }
     {
         Plan {
@@ -30,28 +30,28 @@ impl Plan {
     }
 
     /// How many calls have failed.
-    pub(crate) fn faults(&self) -> u64
+    pub fn faults(&self) -> u64
         ensures { result ≡ self.now.faults }
     {
         self.faults
     }
 
     /// Whether the next call is listed. Nothing is counted.
-    pub(crate) fn fails(&self) -> bool
+    pub fn fails(&self) -> bool
         ensures { result ≡ is_failing self.now }
     {
         self.fails.contains(&self.next)
     }
 
     /// Counts a call that did what it is for.
-    pub(crate) fn pass(&mut self)
+    pub fn pass(&mut self)
         ensures { self.new ≡ after_pass self.old }
     {
         self.next = self.next.saturating_add(1);
     }
 
     /// Counts a call that failed.
-    pub(crate) fn fail(&mut self)
+    pub fn fail(&mut self)
         ensures { self.new ≡ after_fail self.old }
     {
         self.next = self.next.saturating_add(1);

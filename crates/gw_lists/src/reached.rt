@@ -24,7 +24,7 @@ impl<C> Model for Reached<C> {
 }
 
 impl<C> Reached<C> {
-    // So many changes, with a token of them.
+    /// So many changes, with a token of them.
     pub(crate) fn new(count: u64, token: Seen<C, u64, Counted>) -> Self
         requires { count ≡ length token.log }
         ensures { result ≡ record { list = token.log; book = token.book } }
@@ -32,7 +32,7 @@ impl<C> Reached<C> {
         Reached { count, token }
     }
 
-    // The token.
+    /// The token.
     pub(crate) fn token(&self) -> Seen<C, u64, Counted>
         ensures list { result.log ≡ self.now.list }
         ensures book { result.book ≡ self.now.book }

@@ -3,7 +3,6 @@ ghost use Rattle.std.specs.Arc.{arc_value};
 
 use crate::table::DoorTable;
 use gw_snap::Told;
-use gw_snapshots::Told as Shared;
 use gw_store::Entry;
 use gw_text::{Doors, Text};
 use std::marker::Model;
@@ -36,18 +35,6 @@ impl Model for Tables {
 }
 
 impl Told for Tables {
-    ghost use Rattle.gw_match.specs.model.Telling.{Stands};
-
-    type Change = Entry;
-
-    type Fixed = (Doors, Text);
-
-    ghost tells = { λ t list. Stands t list };
-
-    ghost fixed = { λ t. (t.doors, t.controller) };
-}
-
-impl Shared for Tables {
     ghost use Rattle.std.specs.Prelude.{[]};
     ghost use Rattle.gw_match.specs.model.Telling.{Stands};
 

@@ -108,10 +108,10 @@ impl Buffer {
             return Ok(Progress::Bad(BodyFault::TooBig));
         }
         if count < size {
+            self.make_room(size);
             return Ok(Progress::Part);
         }
-        let body = Vec::from_slice(alloc, self.front(size))?;
-        self.advance(size);
+        let body = self.take(alloc, size)?;
         Ok(Progress::Whole(body))
     }
 }

@@ -1,4 +1,4 @@
-ghost use Rattle.std.specs.Prelude.{◌≡◌, ℕ, [], ◌++◌, ◌≤◌, length, drop, take, OnOk, OnErr};
+ghost use Rattle.std.specs.Prelude.{◌≡◌, ℕ, [], ◌++◌, ◌≤◌, length, drop, take, IfOk, OnOk, OnErr};
 ghost use Rattle.gw_messages.specs.model.Sections.{ends_head, ends_trailers};
 ghost use Rattle.gw_messages.specs.model.Bodies.{IsLine};
 ghost use Rattle.gw_messages.specs.Chunks.{IsLineWithin, seen_line};
@@ -10,9 +10,13 @@ use crate::line::LineSearch;
 use crate::section::{Found, Search};
 use std::alloc::{AllocError, Global};
 use std::marker::Model;
+use std::mem;
 
 /// A buffer that was emptied keeps no more memory than this, which is that of one head.
 const MOST_KEPT: usize = 16384;
+
+/// The most memory that is taken at once for bytes that were announced and haven't come.
+const MOST_ROOM: usize = 1_048_576;
 
 /// Bytes that came and weren't taken yet. It knows how far the ends of sections and of a chunk's line were looked for.
 #[derive(Drop)]
@@ -100,6 +104,46 @@ impl Buffer {
         } else {
             self.shrink();
         }
+    }
+
+    /// Takes so many bytes from the front. Where that is much and all that there is, it is handed on without a copy.
+    pub fn take(&mut self, alloc: Global, count: usize) -> Result<Vec<u8>, AllocError>
+        requires { count ≤ length self.old }
+        ensures front { IfOk result (λ front. front.items ≡ take count self.old) }
+        ensures rest { OnOk result (self.new ≡ drop count self.old) }
+        ensures err { OnErr result (self.new ≡ self.old) }
+    {
+        if count > MOST_KEPT && self.start == 0 && count == self.bytes.len() {
+            self.heads = Search::new();
+            self.trailers = Search::new();
+            self.lines = LineSearch::new();
+            return Ok(mem::replace(&mut self.bytes, Vec::new(self.alloc)));
+        }
+        let front = Vec::from_slice(alloc, self.front(count))?;
+        self.advance(count);
+        Ok(front)
+    }
+
+    /// Makes room for so many bytes, not all of which have come, so that they needn't be moved while they come. Where there is no memory
+    /// for it, all stays.
+    pub fn make_room(&mut self, count: usize)
+        ensures { self.new ≡ self.old }
+    {
+        let room = count.min(MOST_ROOM);
+        if room > MOST_KEPT && (self.start > 0 || self.bytes.capacity() < room) {
+            let _ = self.move_to(room);
+        }
+    }
+
+    // Moves the bytes to the front of memory for so many.
+    fn move_to(&mut self, room: usize) -> Result<(), AllocError>
+        ensures { self.new ≡ self.old }
+    {
+        let mut moved = Vec::with_capacity(self.alloc, room)?;
+        moved.extend_from_slice(self.bytes())?;
+        self.bytes = moved;
+        self.start = 0;
+        Ok(())
     }
 
     // Frees what was taken, where that is much. Where there is no memory for the rest, all stays.

@@ -24,6 +24,7 @@ impl FaultCount {
         FaultCount { faults: 0 }
     }
 
+    /// How many calls have failed.
     pub(crate) fn get(&self) -> u64
         ensures { result ≡ self.now }
     {

@@ -8,10 +8,19 @@ const MOST_SILENCE: u64 = 30;
 
 /// Makes a stream send each piece at once, and bounds how long its calls wait.
 pub(crate) fn prepare(stream: &TcpStream) -> io::Result<()> {
+    prepare_reads(stream)?;
+    prepare_writes(stream)
+}
+
+/// Bounds how long a read waits.
+pub(crate) fn prepare_reads(stream: &TcpStream) -> io::Result<()> {
+    stream.set_read_timeout(Some(Duration::from_secs(MOST_SILENCE)))
+}
+
+/// Makes a stream send each piece at once, and bounds how long a write waits.
+pub(crate) fn prepare_writes(stream: &TcpStream) -> io::Result<()> {
     stream.set_nodelay(true)?;
-    let silence = Some(Duration::from_secs(MOST_SILENCE));
-    stream.set_read_timeout(silence)?;
-    stream.set_write_timeout(silence)
+    stream.set_write_timeout(Some(Duration::from_secs(MOST_SILENCE)))
 }
 
 /// The socket as std's sockets take it.

@@ -1,10 +1,11 @@
 ghost use Rattle.std.specs.Prelude.{◌≡◌, ◌≤◌, ◌<◌, None, length, IfOk};
+ghost use Rattle.std.specs.Io.{WritesAtMost};
 ghost use Rattle.gw_link.specs.Faults.{HasRisen};
 ghost use Rattle.gw_net.specs.Real.{UpstreamState, after_call, after_connect};
 
 use crate::fault_count::FaultCount;
 use crate::pieces::{read_piece, write_piece};
-use crate::streams::{address, prepare};
+use crate::streams::{address, prepare_reads, prepare_writes};
 use gw_link::{Failed, Upstream};
 use gw_text::Socket;
 use std::io;
@@ -15,11 +16,51 @@ use std::time::Duration;
 // How many seconds a backend may take to be reached.
 const MOST_REACH: u64 = 5;
 
+// The most bytes of a first piece that a connection takes at once whatever its options: one segment's memory, which it always has.
+const MOST_AT_ONCE: usize = 4096;
+
 // A connection with the backend at a socket.
 #[derive(Drop)]
 struct Connection {
     at: Socket,
     stream: TcpStream,
+    sent: Sent,
+}
+
+// What was sent over a connection.
+#[derive(Clone, Copy)]
+enum Sent {
+    Nothing,
+    // One short piece.
+    Little,
+    // More, by calls whose waiting is bounded.
+    Much,
+}
+
+impl Connection {
+    // Prepares for a piece of so many bytes. Most requests are one short piece, for which no option is set: two calls of the system less.
+    fn prepare(&mut self, size: usize) -> io::Result<()>
+        ensures { self.new.at ≡ self.old.at }
+    {
+        match self.sent {
+            Sent::Nothing if size <= MOST_AT_ONCE => self.sent = Sent::Little,
+            Sent::Nothing | Sent::Little => {
+                prepare_writes(&self.stream)?;
+                self.sent = Sent::Much;
+            }
+            Sent::Much => {}
+        }
+        Ok(())
+    }
+
+    // Sends a front of the piece.
+    fn send(&mut self, piece: &[u8]) -> io::Result<usize>
+        ensures bound { WritesAtMost result piece.now }
+        ensures at { self.new.at ≡ self.old.at }
+    {
+        self.prepare(piece.len())?;
+        write_piece(&mut self.stream, piece)
+    }
 }
 
 /// Reaches backends over TCP, by one connection at a time. It tells no content. A backend that isn't reached in 5 seconds, is silent
@@ -63,7 +104,7 @@ impl<R: Net<Listener = TcpListener, Stream = TcpStream> + Drop> TcpUpstream<R> {
 fn reach<R: Net<Stream = TcpStream>>(rt: &R, to: Socket) -> io::Result<TcpStream> {
     let most = Duration::from_secs(MOST_REACH);
     let stream = TcpStream::connect_timeout(rt, &address(to), most)?;
-    prepare(&stream)?;
+    prepare_reads(&stream)?;
     Ok(stream)
 }
 
@@ -89,7 +130,11 @@ impl<R: Net<Listener = TcpListener, Stream = TcpStream> + Drop> Upstream for Tcp
         self.connection = None;
         match reach(&self.rt, to) {
             Ok(stream) => {
-                self.connection = Some(Connection { at: to, stream });
+                self.connection = Some(Connection {
+                    at: to,
+                    stream,
+                    sent: Sent::Nothing,
+                });
                 Ok(())
             }
             Err(_) => Err(self.faults.fail()),
@@ -102,7 +147,7 @@ impl<R: Net<Listener = TcpListener, Stream = TcpStream> + Drop> Upstream for Tcp
         ensures after { self.new ≡ record self.old { faults = after_call result self.old.faults } }
     {
         if let Some(connection) = &mut self.connection {
-            match write_piece(&mut connection.stream, piece) {
+            match connection.send(piece) {
                 Ok(taken) if taken > 0 => return Ok(taken),
                 _ => {}
             }

@@ -3,9 +3,10 @@ ghost use Rattle.std.specs.Prelude.{◌≡◌, true, is_some};
 
 use crate::peers::{ANYWHERE, listen, next_of};
 use gw_edge::{Acceptor, Edge};
-use gw_link::{Failed, Link, Upstream};
+use gw_link::{Failed, Link, Upstream, send_whole};
 use gw_net::{LoopEdge, TcpAcceptor, TcpLink, TcpUpstream};
 use gw_text::Socket;
+use std::alloc::Global;
 use std::cell::Cell;
 use std::io;
 use std::io::{Error, ErrorKind};
@@ -109,12 +110,32 @@ impl Net for Hurried {
 // Whether the next `receive` fails.
 fn is_silent<U: Upstream>(up: &mut U) -> bool
     requires { is_some (U.at up.old) ≡ true }
+    ensures { U.at up.new ≡ U.at up.old }
 {
     up.receive(&mut [0; 8]) == Err(Failed)
 }
 
+// Whether the next piece of one byte is sent.
+fn sends<U: Upstream>(up: &mut U) -> bool
+    requires { is_some (U.at up.old) ≡ true }
+    ensures { U.at up.new ≡ U.at up.old }
+{
+    up.send(b"x") == Ok(1)
+}
+
+// Whether so many bytes can't be sent.
+fn is_full<U: Upstream>(alloc: Global, up: &mut U, count: usize) -> Result<bool, Fail>
+    requires { is_some (U.at up.old) ≡ true }
+{
+    let many = vec![in alloc; b'x'; count]?;
+    Ok(send_whole(up, many.as_slice()) == Err(Failed))
+}
+
+// More bytes than the system keeps for a connection.
+const MANY: usize = 67_108_864;
+
 #[test]
-fn a_silent_backend_fails_the_receive(rt: HostRuntime) -> Result<(), Fail> {
+fn a_silent_backend_fails_each_call(rt: HostRuntime) -> Result<(), Fail> {
     let (acceptor, at) = listen(&rt)?;
     let net = Hurried {
         rt: rt.clone()?,
@@ -124,9 +145,11 @@ fn a_silent_backend_fails_the_receive(rt: HostRuntime) -> Result<(), Fail> {
     let mut up = TcpUpstream::new(&net);
     up.connect(at)?;
     let socket = net.first.get().ok_or(Failed)?;
-    assert!(rt; is_bounded(socket)? && net.most.get() == Some(Duration::from_secs(5)));
+    assert!(rt; net.most.get() == Some(Duration::from_secs(5)));
+    assert!(rt; sends(&mut up) && sends(&mut up) && is_bounded(socket)?);
     shorten(socket)?;
     assert!(rt; is_silent(&mut up) && up.faults() == 1);
+    assert!(rt; is_full(rt.alloc(), &mut up, MANY)? && up.faults() == 2);
     drop(acceptor);
     Ok(())
 }

@@ -81,6 +81,7 @@ fn what_a_client_still_sends_takes_no_answer_back(rt: HostRuntime) -> Result<(),
 // Whether the next `receive` gives this.
 fn answers<R: Upstream>(up: &mut R, text: &[u8]) -> bool
     requires { is_some (R.at up.old) ≡ true }
+    ensures { R.at up.new ≡ R.at up.old }
 {
     let mut buf = [0; 16];
     match up.receive(&mut buf) {
@@ -107,13 +108,29 @@ fn an_upstream_sends_and_receives(rt: HostRuntime) -> Result<(), Fail> {
 }
 
 #[test]
-fn a_backend_that_resets_fails_the_receive(rt: HostRuntime) -> Result<(), Fail> {
+fn an_upstream_gives_each_byte_as_it_comes(rt: HostRuntime) -> Result<(), Fail> {
+    let (mut acceptor, at) = listen(&rt)?;
+    let mut up = TcpUpstream::new(rt.clone()?);
+    up.connect(at)?;
+    let mut backend = next_of(&mut acceptor)?;
+    write_whole(&mut backend, b"o")?;
+    assert!(rt; answers(&mut up, b"o"));
+    write_whole(&mut backend, b"k")?;
+    assert!(rt; answers(&mut up, b"k"));
+    acceptor.close(backend);
+    assert!(rt; answers(&mut up, b"") && up.faults() == 0);
+    Ok(())
+}
+
+#[test]
+fn a_backend_that_resets_fails_each_call(rt: HostRuntime) -> Result<(), Fail> {
     let (mut acceptor, at) = listen(&rt)?;
     let mut up = TcpUpstream::new(rt.clone()?);
     up.connect(at)?;
     send_whole(&mut up, b"asked")?;
     drop(next_of(&mut acceptor)?);
     assert!(rt; !answers(&mut up, b"") && up.faults() == 1);
+    assert!(rt; send_whole(&mut up, b"asked") == Err(Failed) && up.faults() == 2);
     Ok(())
 }
 

@@ -9,7 +9,7 @@ use Rattle.gw_hub.specs.Control.{Control}
 use Rattle.gw_link.specs.Upstreams.{UpstreamState}
 use Rattle.gw_link.specs.declared.order.Order.{Order}
 use Rattle.gw_lists.proofs.Beginnings.{begins_with-self}
-use Rattle.gw_snapshots.specs.Lists.{BeginsWith, Book, Seen, copies, fresh}
+use Rattle.gw_snap.specs.Lists.{BeginsWith, Book, Seen, copies, fresh}
 use Rattle.gw_store.specs.declared.event.Entry.{Entry}
 use Rattle.gw_text.specs.model.Doors.{Door}
 use Rattle.gw_worker.specs.model.Workers.{Worker}

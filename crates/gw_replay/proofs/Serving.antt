@@ -13,7 +13,7 @@ use Rattle.gw_text.specs.model.Addresses.{Socket}
 use Rattle.gw_link.proofs.ScriptLemmas.{AreScripted, scripted_by}
 use Rattle.gw_answers.specs.declared.books.Books.{Books}
 use Rattle.gw_lists.proofs.Beginnings.{begins_with-length, begins_with-self, begins_with-trans, begins_with-whole}
-use Rattle.gw_snapshots.specs.Lists.{BeginsWith, Book, Seen}
+use Rattle.gw_snap.specs.Lists.{BeginsWith, Book, Seen}
 use Rattle.gw_store.specs.declared.event.Entry.{Entry}
 use Rattle.gw_text.specs.model.Doors.{Door}
 use Rattle.gw_worker.proofs.Linking.{calm, ended_served}

@@ -4,7 +4,7 @@ use Rattle.gw_json.specs.Lines.{line_of}
 use Rattle.gw_link.specs.Faults.{HasRisen}
 use Rattle.gw_link.specs.Moments.{TicksInTurn}
 use Rattle.gw_script.specs.Scripts.{step_of}
-use Rattle.gw_snapshots.specs.Counts.{Counts}
+use Rattle.gw_snap.specs.Counts.{Counts}
 use Rattle.gw_store.specs.Lines.{lines_of}
 use Rattle.gw_text.specs.model.Doors.{Door}
 use Rattle.gw_replay.specs.Lines.{ahead_data, place_data}

@@ -10,7 +10,7 @@ use Rattle.gw_link.specs.declared.order.Order.{Order}
 use Rattle.gw_resolve.specs.declared.outcome.Outcome.{Outcome}
 use Rattle.gw_resolve.specs.declared.outcome.Outcome.TheVariants.{Accepted, Skipped}
 use Rattle.gw_script.specs.Scripts.{step_of}
-use Rattle.gw_snapshots.specs.Lists.{BeginsWith, Book, Seen}
+use Rattle.gw_snap.specs.Lists.{BeginsWith, Book, Seen}
 use Rattle.gw_store.specs.declared.event.Entry.{Entry}
 use Rattle.gw_text.specs.model.Addresses.{Socket}
 use Rattle.gw_text.specs.model.Doors.{Door}

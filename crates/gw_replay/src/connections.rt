@@ -3,7 +3,7 @@ ghost use Rattle.std.specs.Prelude.{◌≡◌, ◌+◌, ◌<◌, ◌≤◌, ◌^
 ghost use Rattle.std.specs.BTreeMap.{get_by_text};
 ghost use Rattle.std.specs.Map.{update};
 ghost use Rattle.gw_link.specs.Upstreams.{Becomes, Refuses};
-ghost use Rattle.gw_snapshots.specs.Lists.{BeginsWith};
+ghost use Rattle.gw_snap.specs.Lists.{BeginsWith};
 ghost use Rattle.gw_worker.specs.Conns.{IsServing, StandsFor};
 ghost use Rattle.gw_worker.specs.Flows.{Served, outside};
 ghost use Rattle.gw_worker.specs.Workers.{IsAt};
@@ -19,7 +19,7 @@ use gw_answers::ServedRow;
 use gw_hub::Controller;
 use gw_link::{MemLink, MemSink, MemSource, MemUpstream};
 use gw_script::StepRefusal;
-use gw_snapshots::OpenFault;
+use gw_snap::OpenFault;
 use gw_text::NoMemory;
 use gw_worker::{Conn, ConnFault, Flow, Worker};
 use std::alloc::Global;

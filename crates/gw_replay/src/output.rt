@@ -13,7 +13,7 @@ use crate::print::{push_ahead, push_place};
 use crate::replay::Replay;
 use crate::stop::Stop;
 use gw_link::{Clock, MOST_INPUT};
-use gw_snapshots::{OpenFault, SnapFaults};
+use gw_snap::{OpenFault, SnapFaults};
 use gw_text::{Doors, NoMemory, Text};
 use gw_worker::Worker;
 use std::alloc::Global;

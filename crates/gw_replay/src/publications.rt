@@ -8,7 +8,7 @@ ghost use Rattle.gw_replay.specs.States.{Does, HaveSeen, IsKept, picks_of};
 use crate::print::push_front;
 use crate::replay::Replay;
 use gw_match::Tables;
-use gw_snapshots::Note;
+use gw_snap::Note;
 use gw_text::NoMemory;
 use gw_worker::Worker;
 use std::sync::Wait;

@@ -1,6 +1,6 @@
 //! What is kept from line to line.
 ghost use Rattle.std.specs.Prelude.{◌≡◌, ◌++◌, ◌<◌, ◌^◌, [], IfOk, IfErr, OnOk, map, string_bytes};
-ghost use Rattle.gw_snapshots.specs.Counts.{CountsPlace};
+ghost use Rattle.gw_snap.specs.Counts.{CountsPlace};
 ghost use Rattle.gw_replay.specs.Replays.{beginning};
 ghost use Rattle.gw_replay.specs.States.{Keeps, site_of, worker_over};
 
@@ -8,7 +8,7 @@ use crate::ending::{Ending, Replayed};
 use gw_hub::Controller;
 use gw_link::MemUpstream;
 use gw_match::Tables;
-use gw_snapshots::{OpenFault, Passes, SnapFaults};
+use gw_snap::{OpenFault, Passes, SnapFaults};
 use gw_text::{Doors, NoMemory, Text};
 use gw_worker::{Conn, Worker};
 use std::alloc::Global;

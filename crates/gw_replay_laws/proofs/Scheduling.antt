@@ -13,7 +13,7 @@ use Rattle.gw_match.specs.model.Telling.{world_after}
 use Rattle.gw_script.specs.Scripts.{step_of as said_step}
 use Rattle.gw_script.specs.Steps.{Step as ScriptStep, an_event, a_publication as publishes, a_beginning, a_sending, an_end, an_answer, a_failure}
 use Rattle.gw_script.specs.declared.refusal.StepRefusal.{StepRefusal}
-use Rattle.gw_snapshots.specs.Lists.{BeginsWith}
+use Rattle.gw_snap.specs.Lists.{BeginsWith}
 use Rattle.gw_store.specs.Events.{Read, a_change as is_change, is_skipped, answer}
 use Rattle.gw_store.specs.Lines.{is_blank}
 use Rattle.gw_store.specs.declared.event.Entry.{Entry}

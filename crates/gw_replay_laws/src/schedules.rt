@@ -1,5 +1,5 @@
 ghost use Rattle.std.specs.Prelude.{ℕ, ℤ, List};
-ghost use Rattle.gw_snapshots.specs.Lists.{BeginsWith};
+ghost use Rattle.gw_snap.specs.Lists.{BeginsWith};
 ghost use Rattle.gw_replay.specs.Replays.{Runs, Site, State};
 ghost use Rattle.gw_replay.specs.Schedules.{Goes, IsSound, Rises, Schedule, Step, beginning, schedule_of};
 

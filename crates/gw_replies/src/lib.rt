@@ -19,5 +19,5 @@ pub use reader::ReplyReader;
 pub use response::Response;
 pub use step::ReplyStep;
 pub use write::{
-    write_forward, write_own, write_reply, write_unedited_forward, write_unedited_reply,
+    phrase_of, write_forward, write_own, write_reply, write_unedited_forward, write_unedited_reply,
 };

@@ -357,9 +357,9 @@ fn push_fault(out: &mut Vec<u8>, fault: Option<FaultName>) -> Result<(), NoMemor
     }
 }
 
-// The phrase of a code of this program's own replies.
+/// The phrase of a code of this program's own replies, empty for any other code. Source: RFC 9110, section 15; RFC 6585, section 5.
 #[tactic(auto, unfolding(crate::specs::model::Written::phrase_of))]
-fn phrase_of(code: u16) -> &'static str
+pub fn phrase_of(code: u16) -> &'static str
     ensures { result.now ≡ phrase_of code }
 {
     match code {

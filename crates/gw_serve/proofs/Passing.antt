@@ -2,7 +2,7 @@
 use Rattle.std.proofs.Common.{◌≡◌, ℕ, zero, suc, ◌+◌, ◌*◌, ◌<◌, ◌≤◌, List, refl, sym, subst, ◌∙◌, length, ap, arith}
 use Rattle.std.proofs.Math.Nat.{mul-suc, mul-le-mul_left}
 use Rattle.gw_hub.specs.Control.{Control, beginning}
-use Rattle.gw_snapshots.specs.Lists.{Book, Seen, copies, fresh}
+use Rattle.gw_snap.specs.Lists.{Book, Seen, copies, fresh}
 use Rattle.gw_store.specs.declared.event.Entry.{Entry}
 use Rattle.gw_text.specs.model.Doors.{Door}
 use Rattle.gw_serve.specs.Serving.{AreOf, job_count}

@@ -4,9 +4,9 @@ use Rattle.std.specs.Coded.{×_prop, Unit-prop}
 use Rattle.std.proofs.Props.{props}
 use Rattle.gw_link.specs.Faults.{HasRisen}
 use Rattle.gw_link.specs.Pieces.{Takes, TakesPart}
-use Rattle.gw_snapshots.specs.Lists.{Book, Seen}
-use Rattle.gw_snapshots.specs.declared.fault.OpenFault.{OpenFault}
-use Rattle.gw_snapshots.specs.declared.fault.OpenFault.TheVariants as opening
+use Rattle.gw_snap.specs.Lists.{Book, Seen}
+use Rattle.gw_snap.specs.declared.fault.OpenFault.{OpenFault}
+use Rattle.gw_snap.specs.declared.fault.OpenFault.TheVariants as opening
 use Rattle.gw_store.specs.declared.event.Entry.{Entry}
 use Rattle.gw_text.specs.model.Doors.{Door}
 use Rattle.gw_serve.specs.declared.fault.ServeFault.{ServeFault}

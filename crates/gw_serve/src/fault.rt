@@ -2,7 +2,7 @@ ghost use Rattle.std.specs.Prelude.{◌≡◌};
 ghost use Rattle.gw_serve.specs.Serving.{of_opening};
 ghost use Rattle.gw_serve.specs.declared.fault.ServeFault.TheVariants.{NoMemory as OutOfMemory};
 
-use gw_snapshots::OpenFault;
+use gw_snap::OpenFault;
 use gw_text::NoMemory;
 use std::alloc::AllocFailed;
 

@@ -6,7 +6,7 @@ use gw_edge::{Acceptor, Next, Work};
 use gw_hub::{Hub, HubName};
 use gw_link::{Clock, Upstream};
 use gw_match::Tables;
-use gw_snapshots::Pass;
+use gw_snap::Pass;
 use gw_worker::{Worker, serve_next};
 use std::alloc::Global;
 use std::sync::{Arc, Wait};

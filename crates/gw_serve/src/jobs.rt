@@ -8,7 +8,7 @@ use gw_edge::{Acceptor, Edge, EdgeFault};
 use gw_hub::{Hub, HubName};
 use gw_link::{Clock, Upstream};
 use gw_match::Tables;
-use gw_snapshots::{Pass, Passes};
+use gw_snap::{Pass, Passes};
 use gw_text::Socket;
 use gw_worker::Worker;
 use std::alloc::Global;

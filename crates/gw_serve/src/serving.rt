@@ -10,7 +10,7 @@ use gw_edge::{Acceptor, Crew, Edge, EdgeFault, Work, start};
 use gw_hub::{Controller, Hub, HubName};
 use gw_link::{Clock, Link, Sink, Upstream, write_all};
 use gw_match::Tables;
-use gw_snapshots::{Passes, SnapFaults};
+use gw_snap::{Passes, SnapFaults};
 use gw_text::{Door, Doors, NoMemory, Socket, Text};
 use std::alloc::Global;
 use std::marker::Brand;

@@ -3,7 +3,7 @@ use crate::setting::{ADMIN, DOOR, REPLY, REQUEST, changes, link, service};
 use gw_edge::{MemAcceptor, MemCrew, MemEdge};
 use gw_link::{MemClock, MemLink, MemSink, MemUpstream};
 use gw_serve::{READY, ServeFault, serve};
-use gw_snapshots::SnapFaults;
+use gw_snap::SnapFaults;
 use gw_text::NoMemory;
 use std::alloc::Global;
 use std::sync::Wait;

@@ -1,6 +1,6 @@
 //! Workers of one door, each in a thread of its own.
 ghost use Rattle.std.specs.Prelude.{◌≡◌, ◌<◌, ◌∷◌, length, IfSome};
-ghost use Rattle.gw_snapshots.specs.Lists.{copies, fresh};
+ghost use Rattle.gw_snap.specs.Lists.{copies, fresh};
 
 use crate::gate::{Gate, GatedUpstream};
 use crate::setting::{DOOR, LINES, REQUEST, link, service};
@@ -10,7 +10,7 @@ use gw_link::{MemClock, MemLink};
 use gw_match::Tables;
 use gw_net::ThreadCrew;
 use gw_serve::{Job, ProxyJob, Service};
-use gw_snapshots::{Note, Pass, Passes, SnapFaults};
+use gw_snap::{Note, Pass, Passes, SnapFaults};
 use gw_text::{NoMemory, Second};
 use gw_worker::Worker;
 use std::alloc::Global;

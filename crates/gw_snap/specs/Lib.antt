@@ -1,1 +1,4 @@
+pub mod Counts
 pub mod Lists
+pub mod Publishing
+pub mod Readers

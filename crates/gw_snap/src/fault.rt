@@ -4,7 +4,7 @@ use std::alloc::AllocFailed;
 /// Why a value wasn't opened, or not read.
 #[derive(Clone, Copy, Debug, PartialEq, Eq)]
 pub enum OpenFault {
-    /// There was no place. In this form there always is one.
+    /// There was no place, or no value at it. It is counted.
     Place,
     NoMemory,
 }

@@ -12,4 +12,7 @@ pub trait Told: Drop {
 
     // The part that all values of one opening have.
     ghost fixed: { Self → Self.Fixed };
+
+    // Any such part, for a reader that wasn't told yet which opening it is of.
+    ghost blank: { Self.Fixed };
 }

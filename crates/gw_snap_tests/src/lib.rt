@@ -3,4 +3,8 @@
 #![tactic(auto)]
 
 #[cfg(test)]
+mod readers;
+#[cfg(test)]
 mod snapshots;
+#[cfg(test)]
+mod world;

@@ -1,101 +1,106 @@
 //! Who sees which of the values that were published, and when.
-ghost use Rattle.std.specs.Prelude.{◌≡◌, ℕ, ◌+◌, ◌<◌, ◌^◌, ◌++◌, ◌∷◌, List, [], length, IfOk, OnOk};
-
-use gw_snap::{OpenFault, Pass, Publisher, Told, snapshots};
-use gw_text::NoMemory;
+use crate::world::{Count, Opened, read};
+use gw_snap::{SnapFaults, snapshots};
 use std::alloc::Global;
-use std::sync::Arc;
+use std::sync::{Arc, Wait};
 use std::test::*;
 
-// A value that counts its changes.
-#[derive(Drop)]
-struct Count(u64);
-
-impl Told for Count {
-    type Change = u64;
-
-    type Fixed = ();
-
-    ghost tells = { λ value list. value.0 ≡ length list };
-
-    ghost fixed = { λ _. tt };
-}
-
-// Appends the next changes, so many of them.
-fn append(alloc: Global, publisher: &mut Publisher<Count>, count: u64) -> Result<(), NoMemory>
-    requires next { length publisher.old.pending ≡ count }
-    requires few { count < 1000 }
-    ensures { OnOk result (publisher.new.pending ≡ publisher.old.pending ++ count ∷ []) }
-{
-    let value = Arc::new(alloc, Count(count + 1))?;
-    match publisher.append(count, value) {
-        Ok(()) => Ok(()),
-        Err(_) => Err(NoMemory),
-    }
-}
-
-// A publisher and two passes, of which nobody has seen anything.
-fn open(alloc: Global) -> Result<(Publisher<Count>, Pass<Count>, Pass<Count>), OpenFault>
-    ensures publisher { IfOk result (λ r. r.0.pending ≡ []) }
-    ensures one { IfOk result (λ r. r.1.seen ≡ []) }
-    ensures other { IfOk result (λ r. r.2.seen ≡ []) }
-{
-    let first = Arc::new(alloc, Count(0))?;
-    let (publisher, mut passes) = snapshots(alloc, first, 2)?;
-    let (Some(one), Some(other)) = (passes.take(), passes.take()) else {
-        return Err(OpenFault::NoMemory);
-    };
-    Ok((publisher, one, other))
-}
-
-// Reads by a pass: how many changes its value has, and the number that it gives.
-fn read(pass: &mut Pass<Count>) -> Result<(u64, u64), OpenFault>
-    ensures { pass.new.seen ≡ pass.old.seen }
-{
-    let view = pass.read()?;
-    Ok((view.value.0, view.front))
+// What a pass reads before a publication, learns of it and reads then, and what one reads that wasn't told.
+fn told_and_untold<R: Wait + Drop, W: Wait>(
+    alloc: Global,
+    rt: &W,
+    opened: &mut Opened<R>,
+) -> Result<[(u64, u64); 4], Fail> {
+    opened.append(alloc)?;
+    opened.append(alloc)?;
+    let before = read(&mut opened.one)?;
+    let mut note = opened.publisher.publish(rt)?;
+    opened.one.learn(&mut note);
+    let learnt = (opened.one.front(), opened.publisher.front());
+    Ok([
+        before,
+        learnt,
+        read(&mut opened.one)?,
+        read(&mut opened.other)?,
+    ])
 }
 
 #[test]
-fn a_pass_sees_what_it_learns(rt: HostRuntime) -> Result<(), Fail> {
-    let alloc = rt.alloc();
-    let (mut publisher, mut one, mut other) = open(alloc)?;
-    append(alloc, &mut publisher, 0)?;
-    append(alloc, &mut publisher, 1)?;
-    let pending = read(&mut one)?;
-    let note = publisher.publish()?;
-    let published = read(&mut one)?;
-    one.learn(&note)?;
-    let learnt = read(&mut one)?;
-    let untold = read(&mut other)?;
-    assert!(rt; pending == (0, 0) && published == (0, 0));
-    assert!(rt; learnt == (2, 2) && one.front() == 2);
-    assert!(rt; untold == (0, 0) && other.front() == 0);
+fn a_pass_sees_what_it_learns_and_an_untold_one_what_is_published(
+    rt: HostRuntime,
+) -> Result<(), Fail> {
+    let mut opened = Opened::new(rt.alloc(), rt.clone()?)?;
+    let seen = told_and_untold(rt.alloc(), &rt, &mut opened)?;
+    assert!(rt; seen == [(0, 0), (2, 2), (2, 2), (2, 2)]);
     Ok(())
+}
+
+// How many changes a pass has seen that learns two publications, the older one last.
+fn older_last<R: Wait + Drop, W: Wait>(
+    alloc: Global,
+    rt: &W,
+    opened: &mut Opened<R>,
+) -> Result<u64, Fail> {
+    opened.append(alloc)?;
+    let mut first = opened.publisher.publish(rt)?;
+    opened.append(alloc)?;
+    let mut second = opened.publisher.publish(rt)?;
+    opened.one.learn(&mut second);
+    opened.one.learn(&mut first);
+    Ok(opened.one.front())
 }
 
 #[test]
 fn an_older_note_takes_nothing_back(rt: HostRuntime) -> Result<(), Fail> {
-    let alloc = rt.alloc();
-    let (mut publisher, mut one, _other) = open(alloc)?;
-    append(alloc, &mut publisher, 0)?;
-    let first = publisher.publish()?;
-    append(alloc, &mut publisher, 1)?;
-    let second = publisher.publish()?;
-    one.learn(&second)?;
-    one.learn(&first)?;
-    let learnt = read(&mut one)?;
-    assert!(rt; learnt == (2, 2) && one.front() == 2);
+    let mut opened = Opened::new(rt.alloc(), rt.clone()?)?;
+    let front = older_last(rt.alloc(), &rt, &mut opened)?;
+    assert!(rt; front == 2);
+    Ok(())
+}
+
+// Whether a pass is found ahead of its publisher, and the two counts that it has.
+fn counts<R: Wait + Drop>(opened: &mut Opened<R>) -> (bool, u64, u64) {
+    let ahead = opened.one.ahead_of(&opened.publisher);
+    (ahead, opened.one.ahead(), opened.one.refused())
+}
+
+#[test]
+fn no_pass_is_ahead_of_its_publisher(rt: HostRuntime) -> Result<(), Fail> {
+    let mut opened = Opened::new(rt.alloc(), rt.clone()?)?;
+    older_last(rt.alloc(), &rt, &mut opened)?;
+    assert!(rt; counts(&mut opened) == (false, 0, 0));
     Ok(())
 }
 
 #[test]
 fn there_are_as_many_passes_as_places(rt: HostRuntime) -> Result<(), Fail> {
+    let mut faults = SnapFaults::new();
     let first = Arc::new(rt.alloc(), Count(0))?;
-    let (_publisher, mut passes) = snapshots(rt.alloc(), first, 3)?;
-    for _ in 0..3 {
-        assert!(rt; passes.take().is_some());
-    }
-    assert!(rt; passes.take().is_none());
+    let (publisher, mut passes) = snapshots(rt.alloc(), rt.clone()?, &mut faults, first, 3)?;
+    let three = passes.take().is_some() && passes.take().is_some() && passes.take().is_some();
+    let none = passes.take().is_none();
+    drop(publisher);
+    assert!(rt; three && none && faults.places() == 0 && faults.ahead() == 0);
+    Ok(())
+}
+
+// Reads twice by a pass whose publisher is gone: whether that was refused, and what the faults count then.
+fn read_alone<R: Wait + Drop>(opened: Opened<R>, faults: &mut SnapFaults) -> (bool, u64, u64) {
+    let Opened {
+        publisher,
+        mut one,
+        other: _other,
+        count: _,
+    } = opened;
+    drop(publisher);
+    let refused = one.read().is_err() && one.read().is_err();
+    faults.take(&one);
+    (refused, faults.places(), faults.ahead())
+}
+
+#[test]
+fn a_reading_without_a_publisher_is_refused_and_counted(rt: HostRuntime) -> Result<(), Fail> {
+    let opened = Opened::new(rt.alloc(), rt.clone()?)?;
+    assert!(rt; read_alone(opened, &mut SnapFaults::new()) == (true, 2, 0));
     Ok(())
 }

@@ -15,7 +15,7 @@ use Rattle.gw_frames.specs.model.Requests.{Request}
 use Rattle.gw_replies.specs.declared.fault.FaultName.{FaultName}
 use Rattle.gw_replies.specs.declared.fault.FaultName.TheVariants.{NoBackend}
 use Rattle.gw_rows.specs.model.Rows.{Row, Rows}
-use Rattle.gw_snapshots.specs.Lists.{Book}
+use Rattle.gw_snap.specs.Lists.{Book}
 use Rattle.gw_text.specs.model.Addresses.{Socket}
 use Rattle.gw_text.specs.model.Filters.{Redirect}
 use Rattle.gw_text.specs.model.Plans.{Backend}

@@ -4,7 +4,7 @@ use Rattle.gw_frames.specs.Inlets.{StandsFor as InletStandsFor}
 use Rattle.gw_link.proofs.PieceLemmas.{Takes-more}
 use Rattle.gw_link.specs.Exchanges.{Exchange}
 use Rattle.gw_link.specs.declared.order.UpstreamCall.{UpstreamCall}
-use Rattle.gw_snapshots.specs.Lists.{BeginsWith}
+use Rattle.gw_snap.specs.Lists.{BeginsWith}
 use Rattle.gw_worker.proofs.Counts.{faults_append, risen_then}
 use Rattle.gw_worker.proofs.Exchanging.{refused_then}
 use Rattle.gw_worker.proofs.Parts.{decided_append, exchanged_append, rows_append}

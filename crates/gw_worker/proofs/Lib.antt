@@ -1,6 +1,5 @@
 mod Counts
 pub mod Deciding
-mod Ends
 pub mod Going
 pub mod Parts
 mod Serving
@@ -8,4 +7,3 @@ mod Stepping
 mod Exchanging
 pub mod Turning
 pub mod Linking
-mod Nexts

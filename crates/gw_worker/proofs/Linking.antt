@@ -1,5 +1,5 @@
 -- What a link's bytes make of a connection.
-use Rattle.std.proofs.Common.{◌≡◌, ◌+◌, ◌≤◌, ℕ, Bool, true, List, [], ◌++◌, map, length, take, Option, Some, None, ap, refl, sym, subst, ◌∙◌, arith, append-nil, append_assoc, option_map, IfSome, ◌==◌}
+use Rattle.std.proofs.Common.{◌≡◌, ◌+◌, ◌≤◌, ℕ, Bool, true, List, [], ◌++◌, map, length, take, Option, Some, ap, refl, sym, subst, ◌∙◌, arith, append-nil, append_assoc, IfSome, ◌==◌}
 use Rattle.gw_answers.specs.model.ServedRows.{ServedRow}
 use Rattle.gw_frames.specs.Inlets.{StandsFor as InletStandsFor}
 use Rattle.gw_frames.specs.declared.ended.Ended.{Ended}
@@ -9,6 +9,7 @@ use Rattle.gw_link.specs.declared.order.UpstreamCall.{UpstreamCall}
 use Rattle.gw_message_laws.specs.declared.requests.TheConstants.{MOST_OPEN_BYTES}
 use Rattle.gw_text.specs.model.Addresses.{Socket}
 use Rattle.gw_worker.specs.declared.serve.TheConstants.{MOST_PIECE}
+use Rattle.gw_link.proofs.KeptLemmas.{takes_kept}
 use Rattle.gw_link.specs.Pieces.{Gives, IsAtEnd, Keeps, Takes}
 use Rattle.gw_exchange.proofs.Receiving.{empty_of}
 use Rattle.gw_lists.proofs.Beginnings.{begins_with-self}
@@ -25,18 +26,6 @@ use Rattle.gw_worker.specs.declared.conn.Stage.{Stage}
 use Rattle.gw_worker.specs.declared.conn.Stage.TheVariants.{Reading, Asking, Answered, Ended as IsEnded}
 use Rattle.gw_worker.specs.model.Workers.{Worker}
 use Rattle.gw_worker.specs.model.Sessions.{Part, Place, step_of}
-
--- what was written stays so
-pub takes_kept : (before middle after : Option (List ℕ)) (piece : List ℕ) → Takes before piece middle → Keeps middle after → Takes before piece after
-takes_kept None middle after piece took kept = tt
-takes_kept (Some told) None after piece took kept = absurd (cc took)
-takes_kept (Some told) (Some m) after piece took kept = kept ∙ took
-
--- what is left stays so
-pub gives_kept : (before middle after : Option (List ℕ)) (piece : List ℕ) → Gives before piece middle → Keeps middle after → Gives before piece after
-gives_kept None middle after piece gave kept = tt
-gives_kept (Some told) None after piece gave kept = absurd (cc gave)
-gives_kept (Some told) (Some m) after piece gave kept = gave ∙ ap (option_map (λ rest. piece ++ rest)) (sym kept)
 
 -- the outside, where a call wrote nothing
 pub took_kept : (refuses : UpstreamCall → Socket → Type 0) (p : Place) (a b : Worker) (c : Conn) (bytes : List ℕ) (parts : List Part) (text : List ℕ) (o : Outside) (told told' : Option (List ℕ)) (x : Option (List Exchange)) (f : ℕ)
@@ -154,12 +143,6 @@ took_first refuses p w c bytes parts text o s =
 
 pub fed_first : (c : Conn) (bytes : List ℕ) → IsFed c bytes → IsFed c (bytes ++ [])
 fed_first c bytes fed = (fed.0, subst (λ (b : List ℕ). InletStandsFor c.inlet b fed.0) (sym (append-nil bytes)) fed.1)
-
--- a link that tells is at its end
-pub end_kept : (left middle after : Option (List ℕ)) (piece : List ℕ) → Gives left piece middle → IsAtEnd middle → Keeps middle after → IfSome left (λ told. IsAtEnd after)
-end_kept None middle after piece gave is kept = tt
-end_kept (Some told) None after piece gave is kept = absurd (cc gave)
-end_kept (Some told) (Some m) after piece gave is kept = subst IsAtEnd (sym kept) is
 
 pub calm : (s : Stage) → s ≡ Reading → IsSettled s
 calm s is = subst IsSettled (sym is) tt

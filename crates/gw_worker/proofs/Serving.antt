@@ -13,7 +13,7 @@ use Rattle.gw_link.specs.Exchanges.{change_last}
 use Rattle.gw_replies.specs.declared.fault.FaultName.{FaultName}
 use Rattle.gw_replies.specs.model.Written.{own}
 use Rattle.gw_text.specs.model.Addresses.{Socket}
-use Rattle.gw_worker.proofs.Ends.{all_of_ended, behind_ask}
+use Rattle.gw_message_laws.proofs.Ends.{all_of_ended, behind_ask}
 use Rattle.gw_worker.proofs.Parts.{rows_append, rows_count, steps_append, whole_append, written_append}
 use Rattle.gw_worker.specs.Conns.{AreServed, IsAsking, IsOpen, IsReplied, IsWhole, Serves, StandsBehind, StandsFor, with_answer}
 use Rattle.gw_worker.specs.Steps.{Came, IsReady}

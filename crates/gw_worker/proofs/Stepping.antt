@@ -9,7 +9,7 @@ use Rattle.gw_frames.specs.declared.step.Step.TheVariants as steps
 use Rattle.gw_frames.specs.model.Requests.{Asks, Step, a_head, ended}
 use Rattle.gw_message_laws.proofs.Limits.{open_limit}
 use Rattle.gw_message_laws.specs.declared.requests.TheConstants.{MOST_OPEN_BYTES}
-use Rattle.gw_worker.proofs.Ends.{over_ends}
+use Rattle.gw_message_laws.proofs.Ends.{over_ends}
 use Rattle.gw_worker.specs.Conns.{AreServed, GoesOn, IsFed, Serves, StandsBehind, StandsFor, turns_left, turns_of}
 use Rattle.gw_worker.specs.Turns.{IsActive, IsWrite, LeavesFewer, Says}
 use Rattle.gw_worker.specs.declared.conn.Conn.{Conn}

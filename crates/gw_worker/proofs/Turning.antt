@@ -31,7 +31,7 @@ use Rattle.gw_worker.specs.declared.conn.Stage.{Stage}
 use Rattle.gw_worker.specs.declared.conn.Stage.TheVariants.{Reading, Asking, Answered, Ended as IsEnded}
 use Rattle.gw_frames.specs.declared.ended.Ended.{Ended}
 use Rattle.gw_lists.proofs.Beginnings.{begins_with-self}
-use Rattle.gw_snapshots.specs.Lists.{BeginsWith}
+use Rattle.gw_snap.specs.Lists.{BeginsWith}
 use Rattle.gw_store.specs.declared.event.Entry.{Entry}
 use Rattle.gw_worker.specs.declared.serve.Flow.TheVariants as flows
 use Rattle.gw_worker.specs.declared.conn.Turn.{Turn}

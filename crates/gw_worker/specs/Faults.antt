@@ -1,8 +1,8 @@
 -- Why a connection is given up.
 use Rattle.std.specs.Prelude.{◌≡◌, ℕ}
-use Rattle.gw_snapshots.specs.Counts.{Rises}
-use Rattle.gw_snapshots.specs.declared.fault.OpenFault.{OpenFault}
-use Rattle.gw_snapshots.specs.declared.fault.OpenFault.TheVariants as refused
+use Rattle.gw_snap.specs.Counts.{Rises}
+use Rattle.gw_snap.specs.declared.fault.OpenFault.{OpenFault}
+use Rattle.gw_snap.specs.declared.fault.OpenFault.TheVariants as refused
 use Rattle.gw_worker.specs.declared.serve.ConnFault.{ConnFault}
 use Rattle.gw_worker.specs.declared.serve.ConnFault.TheVariants.{NoMemory, Place, Read, Write}
 

@@ -8,7 +8,7 @@ use Rattle.gw_link.specs.Exchanges.{Exchange}
 use Rattle.gw_link.specs.declared.order.UpstreamCall.{UpstreamCall}
 use Rattle.gw_link.specs.Pieces.{Takes, TakesPart}
 use Rattle.gw_link.specs.Faults.{HasRisen}
-use Rattle.gw_snapshots.specs.Lists.{BeginsWith}
+use Rattle.gw_snap.specs.Lists.{BeginsWith}
 use Rattle.gw_text.specs.model.Addresses.{Socket}
 use Rattle.gw_worker.specs.Conns.{AreWhole, IsAllOf, IsSettled, StandsFor}
 use Rattle.gw_worker.specs.Exchanges.{AreRefused, Exchanged, HasRisenBy, IsExchanged, TellsAll, as_given, call_faults, is_call_fault}

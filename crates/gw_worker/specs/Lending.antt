@@ -6,13 +6,13 @@ use denote.Struct.Tuple.{Tuple}
 use Rattle.crossbeam_utils.specs.declared.rule.Protocol.{Ghosts as Ruling}
 use Rattle.gw_match.specs.contracts.tables.Tables.{the_row as tables_row}
 use Rattle.gw_match.specs.model.Telling.{Stands, Tables}
-use Rattle.gw_snapshots.specs.Readers.{AllKnow, unknown}
-use Rattle.gw_snapshots.specs.contracts.pass.RuledPass.{the_row as pass_row}
-use Rattle.gw_snapshots.specs.contracts.rule.OneOpening.{the_row as rule_row}
-use Rattle.gw_snapshots.specs.declared.known.Known.{Known}
-use Rattle.gw_snapshots.specs.declared.rule.OneOpening.{OneOpening}
-use Rattle.gw_snapshots.specs.declared.shown.Shown.{Shown}
-use Rattle.gw_snapshots.specs.declared.told.Told.{Ghosts as Telling}
+use Rattle.gw_snap.specs.Readers.{AllKnow, unknown}
+use Rattle.gw_snap.specs.contracts.pass.RuledPass.{the_row as pass_row}
+use Rattle.gw_snap.specs.contracts.rule.OneOpening.{the_row as rule_row}
+use Rattle.gw_snap.specs.declared.known.Known.{Known}
+use Rattle.gw_snap.specs.declared.rule.OneOpening.{OneOpening}
+use Rattle.gw_snap.specs.declared.shown.Shown.{Shown}
+use Rattle.gw_snap.specs.declared.told.Told.{Ghosts as Telling}
 use Rattle.gw_store.specs.contracts.event.Entry.{the_row as entry_row}
 use Rattle.gw_store.specs.declared.event.Entry.{Entry}
 use Rattle.gw_text.specs.contracts.doors.Doors.{the_row as doors_row}

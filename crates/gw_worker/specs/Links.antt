@@ -9,7 +9,7 @@ use Rattle.gw_link.specs.Exchanges.{Exchange}
 use Rattle.gw_link.specs.declared.order.UpstreamCall.{UpstreamCall}
 use Rattle.gw_message_laws.specs.declared.requests.TheConstants.{MOST_OPEN_BYTES}
 use Rattle.gw_link.specs.Pieces.{Gives, IsAtEnd, Takes}
-use Rattle.gw_snapshots.specs.Lists.{BeginsWith}
+use Rattle.gw_snap.specs.Lists.{BeginsWith}
 use Rattle.gw_worker.specs.Conns.{AreWhole, IsAllOf}
 use Rattle.gw_text.specs.model.Addresses.{Socket}
 use Rattle.gw_worker.specs.Exchanges.{AreRefused, Exchanged, HasRisenBy, TellsAll, call_faults}

@@ -4,7 +4,7 @@ use Rattle.gw_answers.specs.Left.{AreLeft}
 use Rattle.gw_answers.specs.model.Decisions.{forwards}
 use Rattle.gw_frames.specs.model.Requests.{Request, Step, a_break, a_continue, a_refusal, an_ask, an_end}
 use Rattle.gw_link.specs.Exchanges.{Exchange}
-use Rattle.gw_snapshots.specs.Lists.{BeginsWith}
+use Rattle.gw_snap.specs.Lists.{BeginsWith}
 use Rattle.gw_text.specs.model.Addresses.{Socket}
 use Rattle.gw_text.specs.model.Plans.{Plan}
 use Rattle.gw_worker.specs.model.Workers.{Worker}

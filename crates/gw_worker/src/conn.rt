@@ -3,8 +3,8 @@ ghost use Rattle.std.specs.Prelude.{◌≡◌, ◌<◌, ◌∷◌, ◌++◌, [],
 ghost use Rattle.gw_frames.specs.Inlets.{is_over, StandsFor as InletStandsFor};
 ghost use Rattle.gw_frames.specs.model.Requests.{ended, an_ask, a_break, a_continue, a_refusal, an_end, Request as PlainRequest};
 ghost use Rattle.gw_link.specs.Exchanges.{change_last};
-ghost use Rattle.gw_snapshots.specs.Counts.{CountsPlace};
-ghost use Rattle.gw_snapshots.specs.Lists.{BeginsWith};
+ghost use Rattle.gw_snap.specs.Counts.{CountsPlace};
+ghost use Rattle.gw_snap.specs.Lists.{BeginsWith};
 ghost use Rattle.gw_worker.specs.Conns.{GoesOn, IsAnswered, IsAsking, IsFed, IsUnfinished, StandsFor, turns_left, with_answer, AreServed, StandsBehind};
 ghost use Rattle.gw_worker.specs.Turns.{Continues, IsBehind, IsReply, IsReplying, IsStuck, IsWrite, LeavesFewer, IsActive};
 ghost use Rattle.gw_worker.specs.Workers.{IsAt, IsLeftBy};
@@ -22,7 +22,7 @@ use gw_answers::{
 use gw_frames::{Ended, Inlet, Request, Step, end_behind};
 use gw_replies::{BackendFault, Response, write_own};
 use gw_rows::Plan;
-use gw_snapshots::OpenFault;
+use gw_snap::OpenFault;
 use gw_text::{List, NoMemory, Socket, Text};
 use std::alloc::Global;
 use std::mem;

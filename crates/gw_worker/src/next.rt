@@ -1,6 +1,6 @@
 //! The next connection of an acceptor.
 ghost use Rattle.std.specs.Prelude.{◌≡◌, ◌<◌, ◌≤◌, length};
-ghost use Rattle.gw_snapshots.specs.Lists.{BeginsWith};
+ghost use Rattle.gw_snap.specs.Lists.{BeginsWith};
 ghost use Rattle.gw_worker.specs.Nexts.{CountsRefusedBy, IsNext, around};
 
 use crate::serve::{Broken, Session, serve_proxy};

@@ -2,7 +2,7 @@
 ghost use Rattle.std.specs.Prelude.{◌≡◌, ◌<◌, ◌≤◌, ℕ, List, length, take, IfOk, IfErr, OnOk, OnErr, ◌==◌, ◌++◌, ◌∷◌, [], false, None, Some};
 ghost use Rattle.gw_link.specs.Faults.{HasRisen};
 ghost use Rattle.gw_link.specs.Pieces.{Gives, IsAtEnd, Keeps, Takes, TakesPart};
-ghost use Rattle.gw_snapshots.specs.Lists.{BeginsWith};
+ghost use Rattle.gw_snap.specs.Lists.{BeginsWith};
 ghost use Rattle.gw_worker.specs.Conns.{IsServing, StandsFor, GoesOn, IsAsking, IsFed, IsSettled, IsUnfinished, turns_left, with_answer};
 ghost use Rattle.gw_worker.specs.Faults.{CountsRefused};
 ghost use Rattle.gw_worker.specs.Flows.{outside, BrokeOff, IsUnwritten, Meets, Replied, Served, TellsOne, TookTo};
@@ -20,12 +20,12 @@ use gw_exchange::{ExchangeFault, exchange};
 use gw_frames::Ended;
 use gw_link::{Link, Upstream, write_whole};
 use gw_replies::{BackendFault, Response};
-use gw_snapshots::OpenFault;
+use gw_snap::OpenFault;
 use gw_text::{List, NoMemory, Socket, Text};
 use std::alloc::Global;
 
 /// The most bytes that one read is asked for.
-const MOST_PIECE: usize = 8192;
+const MOST_PIECE: usize = 65_536;
 
 /// A connection that was served to its end.
 #[derive(Drop)]

@@ -1,8 +1,8 @@
 //! Who serves connections, by the list of changes that is published.
 ghost use Rattle.std.specs.Prelude.{◌≡◌, ◌<◌, ◌⊎◌, [], length, IfOk, IfErr, OnOk, OnErr};
 ghost use Rattle.std.specs.Borrow.{sem};
-ghost use Rattle.gw_snapshots.specs.Counts.{CountsPlace};
-ghost use Rattle.gw_snapshots.specs.Lists.{BeginsWith};
+ghost use Rattle.gw_snap.specs.Counts.{CountsPlace};
+ghost use Rattle.gw_snap.specs.Lists.{BeginsWith};
 ghost use Rattle.gw_worker.specs.Lending.{LendsPass};
 ghost use Rattle.gw_worker.specs.Workers.{Decides, handled_by, IsAt, IsLeftBy};
 ghost use Rattle.gw_worker.specs.model.Sessions.{decision_at, Place};
@@ -10,7 +10,7 @@ ghost use Rattle.gw_worker.specs.model.Sessions.{decision_at, Place};
 use gw_answers::{Books, Decision};
 use gw_frames::Request;
 use gw_match::Tables;
-use gw_snapshots::{Note, OpenFault, Pass};
+use gw_snap::{Note, OpenFault, Pass};
 use std::alloc::Global;
 use std::marker::Model;
 

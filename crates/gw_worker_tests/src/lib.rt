@@ -7,6 +7,10 @@ mod failing;
 #[cfg(test)]
 mod pieces;
 #[cfg(test)]
+mod schedule;
+#[cfg(test)]
 mod server;
+#[cfg(test)]
+mod stage;
 #[cfg(test)]
 mod untold;

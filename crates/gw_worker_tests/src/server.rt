@@ -1,5 +1,5 @@
 //! A worker that has seen one Route with its backend, and what it makes of a connection, as text.
-ghost use Rattle.std.specs.Prelude.{◌<◌, length, IfOk};
+ghost use Rattle.std.specs.Prelude.{◌≡◌, ◌<◌, length, IfOk};
 
 use gw_answers::ServedRow;
 use gw_frames::Ended;
@@ -8,7 +8,7 @@ use gw_link::{MemLink, MemUpstream};
 use gw_match::Tables;
 use gw_message_rows::show;
 use gw_resolve::Outcome;
-use gw_snapshots::{Pass, SnapFaults};
+use gw_snap::{Pass, SnapFaults};
 use gw_text::{Door, Doors, NoMemory, Second, Text};
 use gw_worker::{ConnFault, Worker, serve_proxy};
 use std::alloc::Global;
@@ -33,9 +33,10 @@ pub(crate) struct Server<R: Wait + Drop> {
     ghost door: { 0 < length worker.pass.fixed.0 },
 }
 
-// A worker whose tables have a door.
-fn worker_over(alloc: Global, pass: Pass<Tables>) -> Result<Worker, Fail>
-    ensures { IfOk result (λ worker. 0 < length worker.pass.fixed.0) }
+/// A worker whose tables have a door.
+pub(crate) fn worker_over(alloc: Global, pass: Pass<Tables>) -> Result<Worker, Fail>
+    ensures door { IfOk result (λ worker. 0 < length worker.pass.fixed.0) }
+    ensures book { IfOk result (λ worker. worker.pass.book ≡ pass.book) }
 {
     let mut pass = pass;
     if pass.read()?.value.doors() == 0 {
@@ -44,7 +45,8 @@ fn worker_over(alloc: Global, pass: Pass<Tables>) -> Result<Worker, Fail>
     Ok(Worker::new(alloc, pass))
 }
 
-fn doors(alloc: Global) -> Result<Doors, Fail> {
+/// One door.
+pub(crate) fn doors(alloc: Global) -> Result<Doors, Fail> {
     let mut doors = Vec::new(alloc);
     doors.push(Door::parse(alloc, "default/g:80=127.0.0.1:18080")?)?;
     Ok(Doors::new(alloc, doors)?)

@@ -13,7 +13,8 @@ use std::test::*;
 
 const REQUEST: &[u8; 28] = b"GET /a HTTP/1.1\r\nHost: x\r\n\r\n";
 
-const ROUTE_GOES: &str =
+/// The Route goes.
+pub(crate) const ROUTE_GOES: &str =
     r#"{"type":"DELETED","object":{"apiVersion":"gateway.networking.k8s.io/v1","kind":"HTTPRoute","metadata":{"name":"r"}}}"#;
 
 // A link that holds these bytes.
@@ -54,14 +55,18 @@ fn asked(
     }
 }
 
-// What comes of the request on a new link.
-fn served<R: Wait + Drop>(
+/// What comes of the request on a new link.
+pub(crate) fn served(
     alloc: Global,
-    server: &mut Server<R>,
+    worker: &mut Worker,
     up: &mut MemUpstream,
-) -> Result<(u16, u64), Fail> {
+) -> Result<(u16, u64), Fail>
+    requires door { 0 < length worker.old.pass.fixed.0 }
+    ensures fixed { worker.new.pass.fixed ≡ worker.old.pass.fixed }
+    ensures book { worker.new.pass.book ≡ worker.old.pass.book }
+{
     let mut link = link_of(alloc, REQUEST)?;
-    match serve_proxy(alloc, &mut server.worker, 0, &mut link, up) {
+    match serve_proxy(alloc, worker, 0, &mut link, up) {
         Ok(session) => last_of(session.rows.as_slice(), 1),
         Err(_) => Err(Fail::from("the link is served to its end")),
     }
@@ -81,7 +86,12 @@ fn seen_by_turns<R: Wait + Drop, W: Wait>(
     publish_all(rt, &mut server.controller, &[ROUTE_GOES])?;
     let third = asked(alloc, &mut conn, &mut server.worker, &mut up, 2)?;
     publish_all(rt, &mut server.controller, &[EVENTS[2]])?;
-    Ok([first, second, third, served(alloc, server, &mut up)?])
+    Ok([
+        first,
+        second,
+        third,
+        served(alloc, &mut server.worker, &mut up)?,
+    ])
 }
 
 #[test]

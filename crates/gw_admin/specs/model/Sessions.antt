@@ -1,7 +1,6 @@
 -- What a connection of the admin endpoint comes to: for each of its requests, by which list of changes it was answered, and what the
 -- client was written.
-use Rattle.std.specs.Prelude.{◌≡◌, ◌≤◌, ℕ, ℤ, ◌+◌, ◌-◌, List, [], ◌∷◌, ◌++◌, codes, length, take, Bool, true, Option, Some, None, is_some, ⊤}
-use Rattle.std.specs.List.{flat_map}
+use Rattle.std.specs.Prelude.{◌≤◌, ℕ, ℤ, ◌+◌, ◌-◌, List, [], ◌∷◌, ◌++◌, codes, length, take, Bool, true, Option, Some, None, is_some, ⊤}
 use Rattle.gw_admin_texts.specs.declared.resource.Destination.{Destination}
 use Rattle.gw_admin_texts.specs.declared.resource.Destination.TheVariants.{Found, NotAllowed, Missing}
 use Rattle.gw_admin_texts.specs.declared.resource.Resource.TheVariants.{Changes, Status, Table, Explain, Health}

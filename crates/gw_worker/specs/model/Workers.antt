@@ -1,7 +1,7 @@
 -- Who serves connections.
 use Rattle.std.specs.Prelude.{ℕ, List}
 use Rattle.gw_answers.specs.declared.books.Books.{Books}
-use Rattle.gw_snapshots.specs.Lists.{Seen}
+use Rattle.gw_snap.specs.Lists.{Seen}
 use Rattle.gw_store.specs.declared.event.Entry.{Entry}
 use Rattle.gw_text.specs.model.Doors.{Door}
 

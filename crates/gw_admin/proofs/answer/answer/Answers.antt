@@ -1,5 +1,5 @@
 -- Where the request goes.
-use Rattle.std.proofs.Common.{◌≡◌, ◌∙◌, ℕ, List, sym, ap, subst, refl}
+use Rattle.std.proofs.Common.{◌∙◌, ℕ, List, sym, ap, subst, refl}
 use Rattle.std.proofs.lemmas.Result.{IfOk-weaker}
 use Rattle.gw_admin_texts.specs.declared.resource.Destination.TheVariants.{Found, NotAllowed, Missing}
 use Rattle.gw_admin_texts.specs.declared.resource.Resource.TheVariants.{Explain, Health, Table}

@@ -1,5 +1,5 @@
 -- The clock was asked once.
-use Rattle.std.proofs.Common.{◌≡◌, ◌∙◌, ℕ, ℤ, List, [], ◌∷◌, refl, ap, arith}
+use Rattle.std.proofs.Common.{◌∙◌, List, ap}
 use Rattle.gw_admin_texts.specs.model.Submissions.{Answer, changes_reply}
 use Rattle.gw_admin.specs.Answering.{place_of}
 use Rattle.gw_admin.proofs.Answering.{answered_changes, once}

@@ -1,9 +1,8 @@
 -- The body asks a question, or it doesn't.
-use Rattle.std.proofs.Common.{◌∙◌, refl, subst, sym, Option, None, Some}
+use Rattle.std.proofs.Common.{refl, None}
 use Rattle.std.proofs.lemmas.Result.{IfOk-weaker}
 use Rattle.gw_admin_texts.specs.declared.resource.Destination.TheVariants.{Found}
 use Rattle.gw_admin_texts.specs.declared.resource.Resource.TheVariants.{Explain}
-use Rattle.gw_admin_texts.specs.model.Questions.{IsQuestionOf, Question}
 use Rattle.gw_lists.proofs.Beginnings.{begins_with-self}
 use Rattle.gw_admin.proofs.Answering.{answered_by, answered_question, asked_over}
 use Rattle.gw_admin.proofs.answer.explanation.Goals as goal

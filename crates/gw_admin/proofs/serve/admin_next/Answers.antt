@@ -1,7 +1,7 @@
 -- What came of the next link.
 use Rattle.std.proofs.Common.{refl}
 use Rattle.gw_edge.specs.Accepting.{Told}
-use Rattle.gw_admin.proofs.Accepting.{closes_behind, gives_none, gives_still}
+use Rattle.gw_edge.proofs.Accepting.{closed_then, given_then, gives_none}
 use Rattle.gw_admin.proofs.serve.admin_next.Goals as goal
 
 pub returns-in-Ok-None-clause-next : goal.returns-in-Ok-None-clause-next
@@ -16,8 +16,8 @@ returns-in-Ok-clause-next g c =
       before,
       after,
       record {
-        given = gives_still _ _ _ _ (rw c.in-Ok-Some.field-0-is at c.in-Ok-Some.ensures.next) c.close.ensures.kept;
-        closes = closes_behind _ _ _ after c.in-Ok-Some.ensures.unclosed c.close.ensures.closes;
+        given = given_then _ _ _ _ (rw c.in-Ok-Some.field-0-is at c.in-Ok-Some.ensures.next) c.close.ensures.kept;
+        closes = closed_then _ _ after _ c.in-Ok-Some.ensures.unclosed c.close.ensures.closes;
       },
       c.in-Ok.ensures.served,
     )
@@ -29,8 +29,8 @@ returns-in-Err-result-clause-next g c =
       before,
       after,
       record {
-        given = gives_still _ _ _ _ (rw c.in-Ok-Some.field-0-is at c.in-Ok-Some.ensures.next) c.close.ensures.kept;
-        closes = closes_behind _ _ _ after c.in-Ok-Some.ensures.unclosed c.close.ensures.closes;
+        given = given_then _ _ _ _ (rw c.in-Ok-Some.field-0-is at c.in-Ok-Some.ensures.next) c.close.ensures.kept;
+        closes = closed_then _ _ after _ c.in-Ok-Some.ensures.unclosed c.close.ensures.closes;
       },
       c.in-Err-result.ensures.broken,
     )

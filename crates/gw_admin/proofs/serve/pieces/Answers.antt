@@ -1,13 +1,13 @@
 -- A piece more.
-use Rattle.std.proofs.Common.{◌≡◌, ◌∙◌, ◌+◌, ◌≤◌, ℕ, List, [], ◌++◌, length, take, map, None, Some, Ok, ap, refl, sym, subst, arith, length-append}
+use Rattle.std.proofs.Common.{◌∙◌, ℕ, List, [], ◌++◌, take, None, Some, Ok, ap, refl, arith, length-append}
 use Rattle.std.proofs.lemmas.List.{length-take-le}
 use Rattle.gw_link.proofs.PieceLemmas.{Gives-more, Gives-nothing}
 use Rattle.gw_lists.proofs.Beginnings.{begins_with-self, begins_with-trans}
 use Rattle.gw_admin.specs.Answering.{place_of}
 use Rattle.gw_admin.specs.declared.conn.Flow.TheVariants.{More, Ended}
-use Rattle.gw_admin.specs.model.Sessions.{step_of}
-use Rattle.gw_admin.proofs.Causes.{cause_of_then, nothing_then, on_err, risen_then}
-use Rattle.gw_admin.proofs.Linking.{empty_size, end_kept, few_still, gives_kept, open_still, some_bytes, turned_kept, turned_open}
+use Rattle.gw_admin.proofs.Causes.{nothing_then, on_err, risen_then}
+use Rattle.gw_admin.proofs.Linking.{empty_size, few_still, open_still, some_bytes, turned_kept, turned_open}
+use Rattle.gw_link.proofs.KeptLemmas.{end_kept, gives_kept}
 use Rattle.gw_admin.proofs.Turning.{broke_then, reads_on, still_open, turned_none, turned_then}
 use Rattle.gw_admin.proofs.serve.pieces.Goals as goal
 

@@ -1,7 +1,7 @@
 -- A new connection, served to its end.
-use Rattle.std.proofs.Common.{◌≡◌, [], refl, ap, Ok, Err}
+use Rattle.std.proofs.Common.{[], refl}
 use Rattle.gw_admin.specs.Answering.{place_of}
-use Rattle.gw_admin.proofs.Causes.{counts_by, on_err, passed_on, read_by, write_by}
+use Rattle.gw_admin.proofs.Causes.{on_err}
 use Rattle.gw_admin.proofs.Linking.{has_broken, has_served}
 use Rattle.gw_admin.proofs.serve.serve_admin.Goals as goal
 

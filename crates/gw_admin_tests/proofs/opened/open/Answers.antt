@@ -1,7 +1,7 @@
 -- The passes are those of the opening.
 use Rattle.std.proofs.Common.{◌∙◌, ℕ, List, ap, sym}
 use Rattle.gw_hub.specs.Control.{Control}
-use Rattle.gw_snapshots.specs.Lists.{copies, fresh}
+use Rattle.gw_snap.specs.Lists.{copies, fresh}
 use Rattle.gw_text.specs.model.Doors.{Door}
 use Rattle.gw_admin_tests.proofs.opened.open.Goals as goal
 

@@ -1,6 +1,6 @@
 -- Both passes are of the controller's opening.
 use Rattle.std.proofs.Common.{◌∙◌, ℕ, List, ap, sym}
-use Rattle.gw_snapshots.specs.Lists.{Seen}
+use Rattle.gw_snap.specs.Lists.{Seen}
 use Rattle.gw_store.specs.declared.event.Entry.{Entry}
 use Rattle.gw_text.specs.model.Doors.{Door}
 use Rattle.gw_hub_tests.proofs.Passes.{copies_two}

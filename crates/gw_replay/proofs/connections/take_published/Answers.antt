@@ -1,6 +1,6 @@
 -- Asking whether a worker is ahead changes nothing of it, where it isn't.
 use Rattle.std.proofs.Common.{◌≡◌, ◌∙◌, ℕ, List, ap, refl}
-use Rattle.gw_snapshots.specs.Lists.{Seen}
+use Rattle.gw_snap.specs.Lists.{Seen}
 use Rattle.gw_store.specs.declared.event.Entry.{Entry}
 use Rattle.gw_text.specs.model.Doors.{Door}
 use Rattle.gw_replay.proofs.Serving.{same_worker, served_as}

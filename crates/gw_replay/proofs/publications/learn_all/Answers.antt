@@ -1,7 +1,7 @@
 -- A worker that learns.
 use Rattle.std.proofs.Common.{◌≡◌, ◌∙◌, ◌<◌, ℕ, List, refl, sym, subst, ap, length, get_or, arith}
 use Rattle.std.proofs.lemmas.List.{length-map}
-use Rattle.gw_snapshots.specs.Lists.{BeginsWith}
+use Rattle.gw_snap.specs.Lists.{BeginsWith}
 use Rattle.gw_store.specs.declared.event.Entry.{Entry}
 use Rattle.gw_worker.specs.model.Workers.{Worker}
 use Rattle.gw_replay.proofs.Keeping.{first_all, first_at, first_more, first_none, picks_same}

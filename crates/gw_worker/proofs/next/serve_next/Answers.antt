@@ -1,5 +1,5 @@
 -- The link that was served is the next one, and is closed.
-use Rattle.gw_worker.proofs.Nexts.{given_then, closed_then}
+use Rattle.gw_edge.proofs.Accepting.{given_then, closed_then}
 use Rattle.gw_worker.proofs.next.serve_next.Goals as goal
 
 pub returns-in-Ok-clause-next : goal.returns-in-Ok-clause-next

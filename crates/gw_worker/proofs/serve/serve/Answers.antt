@@ -7,7 +7,8 @@ use Rattle.gw_link.specs.declared.order.UpstreamCall.{UpstreamCall}
 use Rattle.gw_lists.proofs.Beginnings.{begins_with-self, begins_with-trans}
 use Rattle.gw_text.specs.model.Addresses.{Socket}
 use Rattle.gw_worker.proofs.Going.{still_at}
-use Rattle.gw_worker.proofs.Linking.{broke_settled, calm, empty_size, end_kept, fed_first, fed_more, gives_kept, ran_on, stopped_on, took_first, took_kept, took_on}
+use Rattle.gw_worker.proofs.Linking.{broke_settled, calm, empty_size, fed_first, fed_more, ran_on, stopped_on, took_first, took_kept, took_on}
+use Rattle.gw_link.proofs.KeptLemmas.{end_kept, gives_kept}
 use Rattle.gw_worker.specs.Conns.{StandsFor}
 use Rattle.gw_worker.specs.Flows.{Outside, outside}
 use Rattle.gw_worker.specs.Links.{Stopped}

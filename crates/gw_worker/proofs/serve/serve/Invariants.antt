@@ -2,7 +2,7 @@
 use Rattle.std.proofs.Common.{◌≡◌, ◌≤◌, ◌+◌, ◌-◌, ℕ, List, ◌++◌, length}
 use Rattle.gw_link.specs.Pieces.{Gives}
 use Rattle.gw_message_laws.specs.declared.requests.TheConstants.{MOST_OPEN_BYTES}
-use Rattle.gw_snapshots.specs.Lists.{BeginsWith}
+use Rattle.gw_snap.specs.Lists.{BeginsWith}
 use Rattle.gw_worker.specs.Conns.{IsFed, IsServing, StandsFor}
 use Rattle.gw_worker.specs.Flows.{Took, outside}
 use Rattle.gw_worker.specs.Workers.{IsAt}

@@ -3,7 +3,7 @@ use Rattle.std.proofs.Common.{◌∙◌, ◌++◌, ◌∷◌, [], Option, Some, 
 use Rattle.gw_frames.specs.declared.ended.Ended.{Ended}
 use Rattle.gw_frames.specs.declared.ended.Ended.TheVariants.{Closed}
 use Rattle.gw_frames.specs.model.Requests.{an_end}
-use Rattle.gw_requests.proofs.Ends.{behind_end}
+use Rattle.gw_message_laws.proofs.Ends.{behind_end}
 use Rattle.gw_admin.specs.model.Sessions.{step_of}
 use Rattle.gw_admin.proofs.conn.Conn.ended_or.Goals as goal
 

@@ -1,11 +1,12 @@
 -- The reply is made and written, or not.
-use Rattle.std.proofs.Common.{◌≡◌, ◌∷◌, [], refl, arith}
+use Rattle.std.proofs.Common.{◌∷◌, [], refl, arith}
 use Rattle.std.proofs.lemmas.Result.{on_ok_weaker, on_err_weaker, IfErr-weaker}
 use Rattle.gw_frames.specs.model.Requests.{an_ask}
 use Rattle.gw_lists.proofs.Beginnings.{begins_with-self}
 use Rattle.gw_admin.specs.Answering.{place_of}
 use Rattle.gw_admin.proofs.Causes.{cause_unanswered, cause_write, on_err, passed_on}
-use Rattle.gw_admin.proofs.Turning.{broke_before, keeps_self, replied_broke, replied_turned}
+use Rattle.gw_admin.proofs.Turning.{broke_before, replied_broke, replied_turned}
+use Rattle.gw_link.proofs.KeptLemmas.{keeps_self}
 use Rattle.gw_admin.proofs.conn.Conn.reply.Goals as goal
 
 pub returns-in_err-text-clause-broke : goal.returns-in_err-text-clause-broke

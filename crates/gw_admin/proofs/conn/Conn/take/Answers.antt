@@ -1,14 +1,14 @@
 -- The bytes are fed, and all that is whole is answered.
-use Rattle.std.proofs.Common.{◌≡◌, ◌∙◌, ◌++◌, ◌==◌, ℕ, Bool, List, [], map, length, refl, arith, subst, sym, append-nil}
-use Rattle.std.proofs.lemmas.Result.{IfOk-weaker, on_err_weaker, on_ok_weaker}
-use Rattle.gw_frames.specs.Inlets.{StandsFor as InletStandsFor, is_over}
+use Rattle.std.proofs.Common.{◌++◌, List, [], map, refl, arith, subst, sym, append-nil}
+use Rattle.std.proofs.lemmas.Result.{IfOk-weaker, on_err_weaker}
+use Rattle.gw_frames.specs.Inlets.{StandsFor as InletStandsFor}
 use Rattle.gw_frames.specs.model.Requests.{Step}
 use Rattle.gw_lists.proofs.Beginnings.{begins_with-self}
 use Rattle.gw_admin.specs.Answering.{place_of}
-use Rattle.gw_admin.specs.Conns.{Turned}
 use Rattle.gw_admin.specs.model.Sessions.{step_of}
 use Rattle.gw_admin.proofs.Causes.{on_err}
-use Rattle.gw_admin.proofs.Turning.{broke_before, keeps_self, never}
+use Rattle.gw_admin.proofs.Turning.{broke_before, never}
+use Rattle.gw_link.proofs.KeptLemmas.{keeps_self}
 use Rattle.gw_admin.proofs.conn.Conn.take.Goals as goal
 
 pub turns-requires-clause-serving : goal.turns-requires-clause-serving

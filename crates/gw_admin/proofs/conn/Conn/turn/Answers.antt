@@ -1,17 +1,16 @@
 -- What each step comes to.
-use Rattle.std.proofs.Common.{◌≡◌, ◌∙◌, ◌+◌, ◌<◌, ◌≤◌, ℕ, List, [], ◌∷◌, ◌++◌, map, None, Some, refl, ap, arith, subst, sym, append-nil}
-use Rattle.std.proofs.lemmas.Result.{on_err_weaker, on_ok_weaker}
-use Rattle.gw_frames.specs.Inlets.{StandsFor as InletStandsFor, is_over, steps_left}
+use Rattle.std.proofs.Common.{List, [], map, None, refl, arith, subst, sym, append-nil}
+use Rattle.gw_frames.specs.Inlets.{StandsFor as InletStandsFor, is_over}
 use Rattle.gw_frames.specs.declared.ended.Ended.TheVariants.{Closed, Refused, Truncated}
 use Rattle.gw_frames.specs.declared.step.Step.TheVariants as steps
-use Rattle.gw_frames.specs.model.Requests.{Step, a_break, a_continue, a_refusal, an_ask, an_end}
+use Rattle.gw_frames.specs.model.Requests.{Step}
 use Rattle.gw_lists.proofs.Beginnings.{begins_with-self}
-use Rattle.gw_requests.proofs.Ends.{behind_break, behind_continue, behind_refusal}
+use Rattle.gw_message_laws.proofs.Ends.{behind_break, behind_continue, behind_refusal}
 use Rattle.gw_admin.specs.Answering.{place_of}
-use Rattle.gw_admin.specs.Conns.{IsBehind, IsReading}
-use Rattle.gw_admin.specs.model.Sessions.{Part, a_close, a_cut, a_refused, a_wait, asks_behind, step_of}
-use Rattle.gw_admin.proofs.Causes.{cause_refused, on_err}
-use Rattle.gw_admin.proofs.Turning.{all_behind, broke_before, broke_within, ends_by, goes_on, keeps_self, needs_more, never, step_behind, takes_text, turned_by, keeps_takes}
+use Rattle.gw_admin.specs.model.Sessions.{a_close, a_cut, a_refused, a_wait, step_of}
+use Rattle.gw_admin.proofs.Causes.{on_err}
+use Rattle.gw_admin.proofs.Turning.{all_behind, broke_before, broke_within, ends_by, goes_on, needs_more, never, step_behind, takes_text, turned_by, keeps_takes}
+use Rattle.gw_link.proofs.KeptLemmas.{keeps_self}
 use Rattle.gw_admin.proofs.conn.Conn.turn.Goals as goal
 
 pub returns-in_err-next-clause-broke : goal.returns-in_err-next-clause-broke

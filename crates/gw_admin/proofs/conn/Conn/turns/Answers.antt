@@ -1,11 +1,11 @@
 -- One turn more.
-use Rattle.std.proofs.Common.{◌≡◌, ◌∙◌, ◌+◌, ◌≤◌, ℕ, List, ◌++◌, None, Some, refl, ap, arith, subst, sym, Ok}
+use Rattle.std.proofs.Common.{◌≡◌, ◌∙◌, ◌++◌, None, Some, refl, arith}
 use Rattle.gw_lists.proofs.Beginnings.{begins_with-self, begins_with-trans}
 use Rattle.gw_admin.specs.Answering.{place_of}
 use Rattle.gw_admin.specs.declared.conn.Flow.TheVariants.{More}
-use Rattle.gw_admin.specs.model.Sessions.{Part}
 use Rattle.gw_admin.proofs.Causes.{nothing_then, on_err}
-use Rattle.gw_admin.proofs.Turning.{broke_then, keeps_self, keeps_then, reads_more, reads_on, turned_none, turned_then}
+use Rattle.gw_admin.proofs.Turning.{broke_then, reads_more, reads_on, turned_none, turned_then}
+use Rattle.gw_link.proofs.KeptLemmas.{keeps_self, keeps_then}
 use Rattle.gw_admin.proofs.conn.Conn.turns.Goals as goal
 
 pub turns-init : goal.turns-init

@@ -3,7 +3,7 @@ use Rattle.std.proofs.Common.{◌≡◌, ◌∙◌, List, [], length, replicate,
 use Rattle.std.specs.BTreeMap.{get_by_text}
 use Rattle.gw_hub.specs.Control.{Control}
 use Rattle.gw_link.specs.Upstreams.{UpstreamState}
-use Rattle.gw_snapshots.specs.Lists.{copies, fresh}
+use Rattle.gw_snap.specs.Lists.{copies, fresh}
 use Rattle.gw_worker.specs.model.Workers.{Worker}
 use Rattle.gw_replay.specs.Replays.{no_picks}
 use Rattle.gw_replay.specs.States.{AreBackends, HaveLearnt, HaveSeen, picks_of, worker_over}

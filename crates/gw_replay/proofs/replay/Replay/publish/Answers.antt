@@ -4,7 +4,7 @@ use Rattle.std.proofs.lemmas.List.{length-map, with_items_is}
 use Rattle.std.proofs.lemmas.Result.{on_ok_weaker}
 use Rattle.std.specs.Vec.{with_items}
 use Rattle.gw_json.specs.Lines.{line_of}
-use Rattle.gw_snapshots.specs.Lists.{Book}
+use Rattle.gw_snap.specs.Lists.{Book}
 use Rattle.gw_store.specs.declared.event.Entry.{Entry}
 use Rattle.gw_text.specs.model.Doors.{Door}
 use Rattle.gw_worker.specs.model.Workers.{Worker}

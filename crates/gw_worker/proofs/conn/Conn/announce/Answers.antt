@@ -1,7 +1,7 @@
 -- The answer 100 is one thing more.
 use Rattle.std.proofs.Common.{refl, sym, ◌∙◌, append-nil, map}
 use Rattle.gw_frames.specs.declared.ended.Ended.TheVariants.{Closed}
-use Rattle.gw_worker.proofs.Ends.{behind_continue}
+use Rattle.gw_message_laws.proofs.Ends.{behind_continue}
 use Rattle.gw_worker.proofs.Serving.{came_on}
 use Rattle.gw_worker.specs.model.Sessions.{a_wait, step_of}
 use Rattle.gw_worker.proofs.conn.Conn.announce.Goals as goal

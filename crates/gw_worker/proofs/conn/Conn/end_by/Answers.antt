@@ -2,7 +2,7 @@
 use Rattle.std.proofs.Common.{refl, ◌++◌, ◌∷◌, [], map}
 use Rattle.gw_frames.specs.declared.ended.Ended.TheVariants.{Closed, Truncated}
 use Rattle.gw_frames.specs.model.Requests.{a_break, an_end}
-use Rattle.gw_worker.proofs.Ends.{behind_break, behind_end}
+use Rattle.gw_message_laws.proofs.Ends.{behind_break, behind_end}
 use Rattle.gw_worker.proofs.Serving.{came_ended}
 use Rattle.gw_worker.specs.model.Sessions.{a_close, a_cut, step_of}
 use Rattle.gw_worker.proofs.conn.Conn.end_by.Goals as goal

@@ -1,7 +1,7 @@
 -- A refusal is one thing more, and the last.
 use Rattle.std.proofs.Common.{refl, sym, ◌∙◌, append-nil, map}
 use Rattle.gw_frames.specs.declared.ended.Ended.TheVariants.{Closed, Refused}
-use Rattle.gw_worker.proofs.Ends.{behind_refusal}
+use Rattle.gw_message_laws.proofs.Ends.{behind_refusal}
 use Rattle.gw_worker.proofs.Serving.{came_refused}
 use Rattle.gw_worker.specs.model.Sessions.{a_refused, step_of}
 use Rattle.gw_worker.proofs.conn.Conn.refuse.Goals as goal

@@ -2,7 +2,7 @@
 use Rattle.std.proofs.Common.{◌≡◌, ◌≤◌, ℕ, List}
 use Rattle.gw_frames.specs.Inlets.{is_over}
 use Rattle.gw_link.specs.Pieces.{Keeps}
-use Rattle.gw_snapshots.specs.Lists.{BeginsWith}
+use Rattle.gw_snap.specs.Lists.{BeginsWith}
 use Rattle.gw_worker.specs.Conns.{GoesOn, IsSettled, StandsFor, turns_left}
 use Rattle.gw_worker.specs.Flows.{Took, outside}
 use Rattle.gw_worker.specs.Workers.{IsAt}

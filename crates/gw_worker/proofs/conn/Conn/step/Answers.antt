@@ -8,7 +8,7 @@ use Rattle.gw_frames.specs.declared.step.Step.TheVariants as steps
 use Rattle.gw_frames.specs.model.Requests.{Step, a_break, a_continue, a_refusal, an_ask, an_end}
 use Rattle.gw_worker.proofs.Serving.{continues_alone, continues_with, ok_with}
 use Rattle.gw_worker.proofs.Stepping.{Steps, active_no_need, behind_step, end_leaves, end_no_need, goes_by_same, goes_by_step, leaves_fewer, leaves_none, says_need, stands_still, still_open}
-use Rattle.gw_snapshots.specs.declared.fault.OpenFault.{OpenFault}
+use Rattle.gw_snap.specs.declared.fault.OpenFault.{OpenFault}
 use Rattle.gw_worker.specs.Turns.{IsActive}
 use Rattle.gw_worker.specs.declared.conn.Conn.{Conn}
 use Rattle.gw_worker.specs.declared.conn.Turn.{Turn}

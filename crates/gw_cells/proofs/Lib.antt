@@ -1,0 +1,10 @@
+pub mod Counting
+pub mod Deciding
+pub mod FirstCell
+pub mod Holding
+pub mod Making
+pub mod Names
+pub mod Places
+pub mod Probing
+pub mod Sorted
+pub mod Turns

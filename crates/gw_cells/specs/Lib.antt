@@ -1,0 +1,4 @@
+pub mod Cells
+pub mod Compiled
+pub mod Placed
+pub mod model

@@ -1,0 +1,9 @@
+pub mod ByKind
+pub mod Choices
+pub mod Depending
+pub mod Exchanging
+pub mod Finding
+pub mod Replacing
+pub mod Results
+pub mod Sets
+pub mod Subjects

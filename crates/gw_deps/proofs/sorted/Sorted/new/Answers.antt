@@ -1,0 +1,7 @@
+-- No items are in order.
+use Rattle.std.specs.List.Sorted.{IsStrictlySortedBy}
+use Rattle.gw_deps.proofs.sorted.Sorted.new.Goals as goal
+
+pub invariant_of-result : goal.invariant_of-result
+unfolding IsStrictlySortedBy
+invariant_of-result g c = rw c.new.ensures.items tt

@@ -1,0 +1,5 @@
+pub mod Edges
+pub mod Indexes
+pub mod Orders
+pub mod Sets
+pub mod Touching

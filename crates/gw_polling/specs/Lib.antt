@@ -1,0 +1,4 @@
+pub mod Polls
+pub mod PollMemory
+pub mod Rings
+pub mod RingMemory

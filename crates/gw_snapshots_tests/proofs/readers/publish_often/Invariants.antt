@@ -1,5 +1,0 @@
-use Rattle.std.proofs.Common.{◌≡◌, length}
-use Rattle.gw_snapshots_tests.proofs.readers.publish_often.Given as goal
-
-abbrev pub invariant-changes : goal.invariant-changes
-invariant-changes g l = (length l.publisher.pending ≡ l.count) × (l.publisher.fixed ≡ 7)
