@@ -1,0 +1,4 @@
+pub mod Doors
+pub mod Drawing
+pub mod Scripting
+pub mod Writing

@@ -1,0 +1,3 @@
+mod Finding
+mod Handles
+mod Placing

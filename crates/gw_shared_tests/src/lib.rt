@@ -1,0 +1,5 @@
+//! Tests of shared maps over public calls. They stand alone, since a crate with tests is proved twice.
+#![tactic(auto)]
+
+#[cfg(test)]
+mod maps;

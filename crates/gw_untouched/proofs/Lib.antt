@@ -1,0 +1,14 @@
+pub mod Attached
+pub mod ByClass
+pub mod ByGateway
+pub mod ByGrant
+pub mod ByNamespace
+pub mod ByRoute
+pub mod ByService
+pub mod BySlice
+pub mod Evaluated
+pub mod Kept
+pub mod Laws
+pub mod Lists
+pub mod Founds
+pub mod Tables

@@ -1,0 +1,24 @@
+-- The found key is the one that is looked for, since both have their forms.
+use Rattle.std.proofs.Common.{◌≡◌, get_or, rules}
+use Rattle.std.proofs.lemmas.Fn.{always_returns_same}
+use Rattle.gw_text.specs.model.Names.{key_order}
+use Rattle.gw_text.specs.model.Stored.{stored_key}
+use Rattle.gw_deps.proofs.Finding.{place_of_found, missing}
+use Rattle.gw_untouched.proofs.placing.place.Goals as goal
+
+pub returns-in-Ok-clause-place : goal.returns-in-Ok-clause-place
+returns-in-Ok-clause-place g c =
+    let key = g.T.Keyed.key in
+    let name = c.args.key.now in
+    let stored = c.args.stored.now in
+    let item = c.index-stored-at.result in
+    let here : item ≡ get_or stored c.in-Ok.at item = search rules in
+    place_of_found key name stored c.in-Ok.at item c.requires c.in-Ok.ensures.bound here (rw c.deref.ensures at c.key-form.ensures.form) c.formed-key.ensures.form
+    (c.in-Ok.ensures.position (λ s. key_order (stored_key key s) name) (always_returns_same _ _ _ (λ a r q k. search rules)))
+
+pub returns-in-Err-clause-place : goal.returns-in-Err-clause-place
+returns-in-Err-clause-place g c =
+    let key = g.T.Keyed.key in
+    let name = c.args.key.now in
+    missing key name c.args.stored.now c.in-Err.at c.requires c.in-Err.ensures.bound
+    (c.in-Err.ensures.position (λ s. key_order (stored_key key s) name) (always_returns_same _ _ _ (λ a r q k. search rules)))
