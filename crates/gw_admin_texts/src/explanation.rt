@@ -10,9 +10,8 @@ use gw_decide::write_explain;
 use gw_frames::Request;
 use gw_json::{Cursor, MAX_LINE, Refusal, read_value};
 use gw_match::Tables;
-use gw_requests::whole_request;
+use gw_requests::{bytes_in, whole_request};
 use gw_text::NoMemory;
-use gw_word::bytes_in;
 use std::alloc::Global;
 use std::marker::Model;
 

@@ -82,7 +82,7 @@ fn method(alloc: Global, text: &str) -> Result<Option<Text>, NoMemory> {
     Ok(Some(Text::of(alloc, text)?))
 }
 
-fn path(alloc: Global, is_exact: bool, value: &str) -> Result<PathMatch, NoMemory> {
+pub(crate) fn path(alloc: Global, is_exact: bool, value: &str) -> Result<PathMatch, NoMemory> {
     let sort = if is_exact {
         PathMatchType::Exact
     } else {
@@ -99,7 +99,7 @@ fn nothing(alloc: Global) -> Result<Arc<Plan>, NoMemory> {
     Ok(plan)
 }
 
-fn matching(alloc: Global, path: PathMatch, method: Option<Text>) -> Match {
+pub(crate) fn matching(alloc: Global, path: PathMatch, method: Option<Text>) -> Match {
     let headers = Vec::new(alloc);
     let query_params = Vec::new(alloc);
     Match {
@@ -110,7 +110,7 @@ fn matching(alloc: Global, path: PathMatch, method: Option<Text>) -> Match {
     }
 }
 
-fn row(
+pub(crate) fn row(
     alloc: Global,
     listener: u32,
     hostname: Option<Host>,
@@ -146,7 +146,7 @@ fn rows(alloc: Global) -> Result<Vec<Row>, Fail> {
     Ok(rows)
 }
 
-fn asked(alloc: Global, host: &str, path: &str) -> Result<Request, Fail> {
+pub(crate) fn asked(alloc: Global, host: &str, path: &str) -> Result<Request, Fail> {
     let bytes = format!(in alloc; "GET {path} HTTP/1.1\r\nHost: {host}\r\n\r\n")?;
     Ok(request(alloc, bytes.as_bytes())?.ok_or("no request")?)
 }

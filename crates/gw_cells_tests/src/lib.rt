@@ -1,5 +1,7 @@
-//! Tests of compiled tables over public calls. They stand alone, since a crate with tests is proved twice.
+//! Tests of rows and of compiled tables over public calls. They stand alone, since a crate with tests is proved twice.
 #![tactic(auto)]
 
 #[cfg(test)]
 mod finding;
+#[cfg(test)]
+mod parameters;

@@ -5,8 +5,8 @@ use Rattle.gw_text.specs.model.Addresses.{Socket}
 use Rattle.gw_text.specs.model.Doors.{Door, door_of, loopback_of}
 use Rattle.clap.specs.Words.{Rule, Row, App, new_rule, new_app, with_rule, matches_of, fault_of, first_of, all_of}
 use Rattle.clap.specs.declared.builder.action.ArgAction.TheVariants.{Set, Append}
-use Rattle.gw_word.specs.Numbers.{number_below}
-use Rattle.gw_word.specs.Quoted.{quoted_bytes}
+use Rattle.gw_requests.specs.Numbers.{number_below}
+use Rattle.gw_requests.specs.Quoted.{quoted_bytes}
 
 -- What `status` is given.
 pub record StatusWords : Type 0 where

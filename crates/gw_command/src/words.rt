@@ -8,8 +8,8 @@ ghost use Rattle.gw_command.specs.Words as words_of;
 
 use clap::error::ErrorKind;
 use clap::{Arg, ArgAction, ArgMatches};
+use gw_requests::{number_below, quoted_bytes};
 use gw_text::{Door, Socket, Text, TextFault};
-use gw_word::{number_below, quoted_bytes};
 use std::alloc::{AllocError, AllocFailed, Global};
 use std::marker::Model;
 

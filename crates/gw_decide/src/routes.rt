@@ -8,7 +8,7 @@ use crate::verdict::row_at;
 use crate::why::Why;
 use gw_frames::Request;
 use gw_match::DoorTable;
-use gw_rows::{Row, ServedListener, Test, failed_test};
+use gw_rows::{Parameters, Row, ServedListener, Test, failed_test_with};
 use gw_text::NoMemory;
 use std::alloc::Global;
 
@@ -30,9 +30,10 @@ fn explain_rows(
 ) -> Result<Explained, NoMemory>
     ensures { IfOk result (λ e. e.items ≡ explained_over (rules.reason_at (option_copied listener.entry) (option_copied best.entry) request.now) rows.now) }
 {
+    let parameters = Parameters::cut(&request.query);
     let mut reasons = Reasons::new(alloc);
     'rows: for row in rows {
-        let why = reason_at(listener, best, request, row);
+        let why = reason_at(listener, best, request, &parameters, row);
         reasons.note(alloc, &row.key, why)?;
     }
     Ok(reasons.into_entries())
@@ -43,20 +44,25 @@ fn reason_at(
     listener: Option<&ServedListener>,
     best: Option<&Row>,
     request: &Request,
+    parameters: &Parameters,
     row: &Row,
 ) -> Why
+    requires { parameters.now ≡ fitting.parameters_of request.now.query }
     ensures { result ≡ rules.reason_at (option_copied listener.entry) (option_copied best.entry) request.now row.now }
 {
     match listener {
-        Some(listener) if row.listener == listener.number => reason_here(best, request, row),
+        Some(listener) if row.listener == listener.number => reason_here(
+            best, request, parameters, row,
+        ),
         _ => Why::OtherListener,
     }
 }
 
-fn reason_here(best: Option<&Row>, request: &Request, row: &Row) -> Why
+fn reason_here(best: Option<&Row>, request: &Request, parameters: &Parameters, row: &Row) -> Why
+    requires { parameters.now ≡ fitting.parameters_of request.now.query }
     ensures { result ≡ rules.reason_here (option_copied best.entry) (fitting.failed_test row.now request.now) row.now }
 {
-    match failed_test(row, request) {
+    match failed_test_with(row, request, parameters) {
         Some(test) => failed_at(test),
         None if is_of_its_route(best, row) => Why::Chosen,
         None => Why::Preceded,

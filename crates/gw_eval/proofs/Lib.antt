@@ -3,6 +3,7 @@ pub mod Candidates
 pub mod Counting
 pub mod FirstOf
 pub mod Growing
+pub mod Keeping
 pub mod Meeting
 pub mod Places
 pub mod Rows

@@ -1,6 +1,6 @@
 -- How the rows of a door are made in the body: each Route is evaluated once for all listeners. The rows themselves are defined
 -- without it.
-use Rattle.std.specs.Prelude.{ℕ, List, [], Bool, if◌then◌else◌, nat_eq, not, ◌==◌, length, map, filter, flat_map}
+use Rattle.std.specs.Prelude.{ℕ, List, [], Bool, if◌then◌else◌, nat_eq, not, ◌==◌, get_or, length, map, filter, flat_map}
 use Rattle.std.specs.List.{enumerate_from, list_any}
 use Rattle.gw_text.specs.model.Doors.{Door}
 use Rattle.gw_text.specs.model.Names.{Key, same_key}
@@ -9,6 +9,7 @@ use Rattle.gw_text.specs.model.Routes.{Rule, HttpRoute, parent_key}
 use Rattle.gw_text.specs.model.Statuses.{Entry, entries_of}
 use Rattle.gw_text.specs.model.Stored.{Stored}
 use Rattle.gw_text.specs.model.World.{World}
+use Rattle.gw_eval.specs.Kept.{AttachedAt, KeptRoute}
 use Rattle.gw_rows.specs.model.Rows.{Row, ServedListener}
 use Rattle.gw_rows.specs.model.DoorRows.{RouteHostname, hostnames_for, row_of}
 
@@ -51,6 +52,30 @@ candidate_of controller w door s = record {
 -- Some entry attaches the Route to a listener of the Gateway.
 abbrev pub has_places : Candidate → Bool
 has_places c = not (length c.places == 0)
+
+-- The listeners of the Gateway of this key to which an entry attaches its Route, as they are kept.
+abbrev pub places_at : Key → AttachedAt → List ℕ
+places_at key at = if same_key key at.gateway then at.listeners else []
+
+-- What no rule does.
+abbrev pub no_plan : Plan
+no_plan = record { filters = []; backends = [] }
+
+-- The rule at a place, with the plan there.
+abbrev pub rule_with : List Plan → ℕ × Rule → PlannedRule
+rule_with plans p = record { number = p.0; rule = p.1; plan = get_or plans p.0 no_plan }
+
+-- The rules with these plans.
+abbrev pub rules_with : List Plan → List Rule → List PlannedRule
+rules_with plans rules = map (rule_with plans) (enumerate_from 0 rules)
+
+-- What is evaluated of a Route, out of what is kept of it.
+abbrev pub candidate_with : Door → KeptRoute → Stored HttpRoute → Candidate
+candidate_with door k s = record {
+  route = s;
+  places = flat_map (places_at door.gateway) k.attached;
+  rules = rules_with k.plans s.object.rules;
+}
 
 -- The Routes that are attached to the Gateway.
 unfoldable pub candidates_of : List ℕ → World → Door → List Candidate

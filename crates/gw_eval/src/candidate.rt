@@ -1,19 +1,24 @@
 //! The Routes that are attached to the Gateway of a door, each evaluated once.
-ghost use Rattle.std.specs.Prelude.{◌≡◌, ◌++◌, ◌∷◌, [], IfOk, OnOk, filter, map, if◌then◌else◌};
+ghost use Rattle.std.specs.Prelude.{◌≡◌, ◌<◌, ◌++◌, ◌∷◌, [], IfOk, OnOk, filter, flat_map, length, map, if◌then◌else◌};
 ghost use Rattle.std.specs.List.{enumerate_from};
 ghost use Rattle.gw_text.specs.model.Routes.{parent_key};
 ghost use Rattle.gw_text.specs.model.Names.{same_key};
+ghost use Rattle.gw_text.specs.model.Plans.{plan_of};
 ghost use Rattle.gw_text.specs.model.World.{namespace_labels};
 ghost use Rattle.gw_eval.specs.Candidates as evaluated;
 ghost use Rattle.gw_eval.specs.Counting.{entries_in};
+ghost use Rattle.gw_eval.specs.Kept as keeps;
 
 use crate::entries::{Entry, entries_by};
 use crate::home::Home;
+use crate::kept::{AttachedAt, KeptRoute};
 use crate::plans::plan;
 use crate::served::number;
+use crate::shared_plans::Plans;
 use gw_labels::Labels;
 use gw_route::{HttpRoute, ParentRef, Rule};
 use gw_rows::Plan;
+use gw_status::Shared;
 use gw_store::World;
 use gw_text::{Door, Key, NoMemory, Stored, Text};
 use std::alloc::Global;
@@ -156,6 +161,88 @@ pub fn candidates<'w>(
         home.enter(alloc, world, &route.meta.key.namespace)?;
         let labels = home.labels();
         push_candidate(alloc, controller, world, door, labels, &mut all, route)?;
+    }
+    Ok(all)
+}
+
+// The rules of a Route of this namespace, with what is kept of what they do.
+fn kept_rules<'w>(
+    alloc: Global,
+    plans: &Plans,
+    rules: &'w [Rule],
+) -> Result<Vec<PlannedRule<'w>>, NoMemory>
+    requires { length plans.now ≡ length rules.now }
+    ensures { IfOk result (λ all. all.items ≡ evaluated.rules_with plans.now rules.now) }
+{
+    let mut all = Vec::with_capacity(alloc, rules.len())?;
+    'rules: for (place, rule) in rules.iter().enumerate() {
+        all.push(PlannedRule {
+            number: number(place)?,
+            rule,
+            plan: plans.at(place)?,
+        })?;
+    }
+    Ok(all)
+}
+
+fn push_kept_places(places: &mut Vec<usize>, gateway: &Key, at: &AttachedAt) -> Result<(), NoMemory>
+    ensures { OnOk result (places.new.items ≡ places.old.items ++ evaluated.places_at gateway.now at.now) }
+{
+    if *gateway == at.gateway {
+        places.extend_from_slice(at.listeners.as_slice())?;
+    }
+    Ok(())
+}
+
+// The listeners of the Gateway of this key to which the entries of a Route attach it.
+fn kept_places(alloc: Global, gateway: &Key, kept: &KeptRoute) -> Result<Vec<usize>, NoMemory>
+    ensures { IfOk result (λ places. places.items ≡ flat_map (evaluated.places_at gateway.now) kept.now.attached) }
+{
+    let mut places = Vec::new(alloc);
+    'entries: for at in kept.attached.as_slice() {
+        push_kept_places(&mut places, gateway, at)?;
+    }
+    Ok(places)
+}
+
+// Puts the Route, of which this is kept, to the others, where it is attached to some listener of the Gateway.
+fn push_kept_candidate<'w>(
+    alloc: Global,
+    door: &Door,
+    kept: &KeptRoute,
+    all: &mut Vec<Candidate<'w>>,
+    route: &'w Stored<HttpRoute>,
+) -> Result<(), NoMemory>
+    requires { length kept.now.plans ≡ length route.now.object.rules }
+    ensures { OnOk result (all.new.items ≡ all.old.items ++ filter evaluated.has_places (evaluated.candidate_with door.now kept.now route.now ∷ [])) }
+{
+    let places = kept_places(alloc, &door.gateway, kept)?;
+    if !places.is_empty() {
+        let rules = kept_rules(alloc, &kept.plans, route.rules.as_slice())?;
+        all.push(Candidate {
+            route,
+            places,
+            rules,
+        })?;
+    }
+    Ok(())
+}
+
+/// The Routes that are attached to the door's Gateway, in key order, out of what is kept of all for a controller of this name.
+#[tactic(auto, unfolding(crate::specs::Candidates::candidates_of))]
+pub fn kept_candidates<'w>(
+    alloc: Global,
+    _controller: &Text,
+    world: &'w World,
+    door: &Door,
+    kept: &[Shared<KeptRoute>],
+) -> Result<Vec<Candidate<'w>>, NoMemory>
+    requires { kept.now ≡ keeps.kept_routes_of _controller.now world.now.world }
+    ensures { IfOk result (λ all. all.items ≡ evaluated.candidates_of _controller.now world.now.world door.now) }
+{
+    let mut all = Vec::new(alloc);
+    'routes: for (place, route) in world.routes().iter().enumerate() {
+        push_kept_candidate(alloc, door, &kept[place], &mut all, route)?;
     }
     Ok(all)
 }

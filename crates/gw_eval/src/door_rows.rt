@@ -1,16 +1,19 @@
 //! The rows of a door.
 ghost use Rattle.std.specs.Prelude.{◌≡◌, ◌<◌, ◌++◌, IfOk, OnOk, flat_map, get_or, length, option_copied};
 ghost use Rattle.gw_eval.specs.Candidates as evaluated;
+ghost use Rattle.gw_eval.specs.Kept as keeps;
 ghost use Rattle.gw_rows.specs.model.DoorRows as rows;
 ghost use Rattle.gw_text.specs.model.Doors.{Door as PlainDoor};
 ghost use Rattle.gw_text.specs.model.Stored.{creation};
 
 use crate::attached::contains;
-use crate::candidate::{Candidate, PlannedRule, candidates};
+use crate::candidate::{Candidate, PlannedRule, candidates, kept_candidates};
 use crate::hostnames::{RouteHostname, hostnames_for};
+use crate::kept::KeptRoute;
 use crate::served::{copy_hostname, number, served};
 use gw_route::{HttpRoute, Match, copy_match};
 use gw_rows::{Row, Rows, ServedListener};
+use gw_status::Shared;
 use gw_store::World;
 use gw_text::{Doors, Host, NoMemory, Second, Stored, Text};
 use std::alloc::Global;
@@ -169,6 +172,26 @@ pub fn eval_rows(
     let door = &doors.doors()[door];
     let listeners = served(alloc, controller, doors, w, door)?;
     let candidates = candidates(alloc, controller, w, door)?;
+    let rows = rows_at(alloc, listeners.as_slice(), candidates.as_slice())?;
+    Ok(Rows::new(listeners, rows))
+}
+
+/// The same out of what is kept of all Routes: none is evaluated.
+pub fn eval_kept_rows(
+    alloc: Global,
+    w: &World,
+    doors: &Doors,
+    controller: &Text,
+    kept: &[Shared<KeptRoute>],
+    door: usize,
+) -> Result<Rows, NoMemory>
+    requires door { door < length doors.now }
+    requires kept { kept.now ≡ keeps.kept_routes_of controller.now w.now.world }
+    ensures { IfOk result (λ found. (d : PlainDoor) → found ≡ rows.rows_of doors.now controller.now w.now.world (get_or doors.now door d)) }
+{
+    let door = &doors.doors()[door];
+    let listeners = served(alloc, controller, doors, w, door)?;
+    let candidates = kept_candidates(alloc, controller, w, door, kept)?;
     let rows = rows_at(alloc, listeners.as_slice(), candidates.as_slice())?;
     Ok(Rows::new(listeners, rows))
 }

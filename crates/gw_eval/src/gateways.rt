@@ -9,7 +9,9 @@ use crate::attached::Counts;
 use crate::classes::is_managed;
 use gw_listener::{gateway_state, listener_states};
 use gw_objects::{Gateway, Listener};
-use gw_status::{GatewayStatus, GatewayStatuses, ListenerState, ListenerStatus, ListenerStatuses};
+use gw_status::{
+    GatewayStatus, GatewayStatuses, ListenerState, ListenerStatus, ListenerStatuses, Shared,
+};
 use gw_store::World;
 use gw_text::{Doors, NoMemory, Steps, Text};
 use std::alloc::Global;
@@ -94,7 +96,8 @@ pub fn gateway_statuses<L: Ledger>(
         steps.tick();
         if is_managed(alloc, controller, world, gateway)? {
             let attached = counts.of_gateway(place);
-            all.push(gateway_status(alloc, controller, doors, world, gateway, attached)?)?;
+            let status = gateway_status(alloc, controller, doors, world, gateway, attached)?;
+            all.push(Shared::new(alloc, status)?)?;
         }
     }
     Ok(all)

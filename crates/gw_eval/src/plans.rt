@@ -3,8 +3,9 @@ ghost use Rattle.std.specs.Prelude.{◌≡◌, IfOk, map};
 ghost use Rattle.gw_text.specs.model.Plans as rules;
 
 use crate::references::state;
+use crate::shared_plans::Plans;
 use gw_route::{BackendRef, HttpRoute, Rule, copy_filters};
-use gw_rows::{Backend, Backends, Plan, Plans};
+use gw_rows::{Backend, Backends, Plan};
 use gw_store::World;
 use gw_text::{NoMemory, Text};
 use std::alloc::Global;
@@ -45,7 +46,8 @@ pub fn plans(alloc: Global, world: &World, route: &HttpRoute) -> Result<Plans, N
 {
     let mut all = Plans::new(alloc);
     'rules: for rule in route.rules.as_slice() {
-        all.push(plan(alloc, world, &route.meta.key.namespace, rule)?)?;
+        let plan = plan(alloc, world, &route.meta.key.namespace, rule)?;
+        all.push(alloc, plan)?;
     }
     Ok(all)
 }

@@ -6,9 +6,9 @@ ghost use Rattle.gw_eval.specs.Results.{route_result_of};
 use crate::entries::{Entry, entries};
 use crate::plans::plans;
 use crate::routes::route_parents;
+use crate::shared_plans::Plans;
 use gw_attach::{Attachment, Places};
 use gw_route::HttpRoute;
-use gw_rows::Plans;
 use gw_status::ParentStatuses;
 use gw_store::World;
 use gw_text::{List, NoMemory, Text};
@@ -37,7 +37,8 @@ impl Model for RouteResult {
     ghost view = { λ r. record { parents = r.parents; places = r.places; plans = r.plans } };
 }
 
-fn copy_places(alloc: Global, places: &[usize]) -> Result<Places, NoMemory>
+/// The same places once more.
+pub fn copy_places(alloc: Global, places: &[usize]) -> Result<Places, NoMemory>
     ensures { IfOk result (λ copy. copy ≡ places.now) }
 {
     let mut copy = Places::new(alloc);

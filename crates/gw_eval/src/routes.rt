@@ -10,7 +10,7 @@ use crate::home::Home;
 use crate::references::resolved_refs;
 use gw_labels::Labels;
 use gw_route::HttpRoute;
-use gw_status::{ParentStatuses, RouteStatus, RouteStatuses};
+use gw_status::{ParentStatuses, RouteStatus, RouteStatuses, Shared};
 use gw_store::World;
 use gw_text::{NoMemory, Steps, Text};
 use std::alloc::Global;
@@ -68,8 +68,8 @@ pub fn route_parents(
     parent_statuses(alloc, controller, resolved, entries)
 }
 
-// The status of a Route that has these entries.
-fn route_status(
+/// The status of a Route that has these entries.
+pub fn route_status(
     alloc: Global,
     controller: &Text,
     world: &World,
@@ -83,6 +83,21 @@ fn route_status(
         key: route.meta.key.copy(alloc)?,
         parents: route_parents(alloc, controller, world, route, entries)?,
     })
+}
+
+/// A handle on it.
+pub fn shared_status(
+    alloc: Global,
+    controller: &Text,
+    world: &World,
+    route: &HttpRoute,
+    entries: &[Entry<'_>],
+) -> Result<Shared<RouteStatus>, NoMemory>
+    requires entries { entries_in entries.now ≡ statuses.entries_of controller.now world.now.world route.now }
+    ensures { IfOk result (λ status. status ≡ statuses.route_status_of controller.now world.now.world route.now) }
+{
+    let status = route_status(alloc, controller, world, route, entries)?;
+    Shared::new(alloc, status)
 }
 
 /// The statuses of all Routes, in key order, each counted at the listeners to which it is attached. A step for each Route.
@@ -105,7 +120,7 @@ pub fn route_statuses<L: Ledger>(
         steps.tick();
         home.enter(alloc, world, &route.meta.key.namespace)?;
         let entries = counted_entries(alloc, controller, world, home.labels(), route, counts)?;
-        all.push(route_status(alloc, controller, world, route, entries.as_slice())?)?;
+        all.push(shared_status(alloc, controller, world, route, entries.as_slice())?)?;
     }
     Ok(RouteStatuses::from_vec(all))
 }

@@ -81,7 +81,7 @@ fn value_for<'e>(entries: &'e [Field], name: &Text) -> Option<&'e Text>
     ensures { option_copied result ≡ value_for entries.now name.now }
 {
     'entries: for entry in entries {
-        if entry.is_named(name) {
+        if entry.is_named(name.bytes()) {
             return Some(&entry.value);
         }
     }
@@ -244,5 +244,5 @@ fn push_unnamed(
 fn is_one_of(names: &[Text], field: &Field) -> bool
     ensures { result ≡ list_any (same_field_name field.now.name) names.now }
 {
-    names.iter().any(|name| field.is_named(name))
+    names.iter().any(|name| field.is_named(name.bytes()))
 }

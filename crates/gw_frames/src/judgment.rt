@@ -16,7 +16,7 @@ use crate::request::Request;
 use crate::rules::{code_of, is_framed, size_of};
 use crate::target::read_target;
 use gw_messages::element::same_word;
-use gw_messages::field::{Values, has_element, is_named, values_of};
+use gw_messages::field::{Values, has_element, values_of};
 use gw_text::{Field, Fields, NoMemory, Text};
 use http_uri::Uri;
 use std::alloc::Global;
@@ -162,7 +162,7 @@ fn with_hosts(alloc: Global, fields: &[Field], authority: &[u8]) -> Result<Field
 fn with_host(alloc: Global, field: &Field, authority: &[u8]) -> Result<Field, NoMemory>
     ensures { IfOk result (λ hosted. hosted ≡ with_host authority.now field.now) }
 {
-    if !is_named(field, b"host") {
+    if !field.is_named(b"host") {
         return field.copy(alloc);
     }
     Ok(Field {

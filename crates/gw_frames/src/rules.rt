@@ -10,7 +10,7 @@ ghost use Rattle.gw_frames.specs.Targets.{target_of};
 use crate::head::Head;
 use crate::host::is_authority;
 use gw_messages::coding::codings_of;
-use gw_messages::field::{Values, are_one_number, has_field, is_named, values_of};
+use gw_messages::field::{Values, are_one_number, has_field, values_of};
 use gw_messages::number::number_up_to;
 use gw_text::Field;
 use http_uri::Uri;
@@ -119,8 +119,8 @@ pub fn is_framed(fields: &[Field]) -> bool
 fn names_body(fields: &[Field]) -> bool
     ensures { result ≡ list_any (λ f. same_field_name f.name (codes "transfer-encoding") || same_field_name f.name (codes "content-length")) fields.now }
 {
-    fields.iter().any(|field| is_named(field, b"transfer-encoding")
-        || is_named(field, b"content-length"))
+    fields.iter().any(|field| field.is_named(b"transfer-encoding")
+        || field.is_named(b"content-length"))
 }
 
 fn is_ambiguous(head: &Head) -> bool

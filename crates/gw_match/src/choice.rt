@@ -2,13 +2,14 @@
 ghost use Rattle.std.specs.Prelude.{◌≡◌, ◌+◌, ◌≤◌, filter, length, option_copied};
 ghost use Rattle.std.specs.Ordering.{is_lt};
 ghost use Rattle.gw_rows.specs.Kept.{kept};
+ghost use Rattle.gw_rows.specs.model.Fitting.{parameters_of};
 ghost use Rattle.gw_rows.specs.model.Precedence.{precedence};
 ghost use Rattle.gw_rows.specs.model.Rows.{foremost};
 ghost use Rattle.gw_match.specs.model.Choice as rules;
 
 use gw_frames::Request;
 use gw_host::{covers, specificity};
-use gw_rows::{Row, ServedListener, better, fits};
+use gw_rows::{Parameters, Row, ServedListener, better, fits_with};
 use gw_text::Steps;
 use std::sync::ledger::Ledger;
 
@@ -75,10 +76,11 @@ pub fn foremost_listener<'l>(
     best
 }
 
-fn fits_at(listener: &ServedListener, row: &Row, request: &Request) -> bool
+fn fits_at(listener: &ServedListener, row: &Row, request: &Request, parameters: &Parameters) -> bool
+    requires { parameters.now ≡ parameters_of request.now.query }
     ensures { result ≡ rules.fits_at listener.now request.now row.now }
 {
-    row.listener == listener.number && fits(row, request)
+    row.listener == listener.number && fits_with(row, request, parameters)
 }
 
 // The row, where it is one of the listener, fits, and no better one was found.
@@ -87,10 +89,12 @@ fn best_of<'r>(
     row: &'r Row,
     listener: &ServedListener,
     request: &Request,
+    parameters: &Parameters,
 ) -> Option<&'r Row>
+    requires { parameters.now ≡ parameters_of request.now.query }
     ensures { option_copied result ≡ kept precedence (rules.fits_at listener.now request.now) (option_copied best.entry) row.now }
 {
-    if !fits_at(listener, row, request) {
+    if !fits_at(listener, row, request, parameters) {
         return best;
     }
     match best {
@@ -109,10 +113,11 @@ pub fn foremost_row<'r, L: Ledger>(
     ensures row { option_copied result ≡ foremost precedence (filter (rules.fits_at listener.now request.now) rows.now) }
     ensures steps { steps.new ≡ steps.old + length rows.now }
 {
+    let parameters = Parameters::cut(&request.query);
     let mut best = None;
     'rows: for row in rows {
         steps.tick();
-        best = best_of(best, row, listener, request);
+        best = best_of(best, row, listener, request, &parameters);
     }
     best
 }

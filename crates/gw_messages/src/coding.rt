@@ -4,7 +4,6 @@ ghost use Rattle.gw_text.specs.model.Names.{is_given};
 ghost use Rattle.gw_messages.specs.Codings.{note, noted};
 
 use crate::element::{first_element, trim};
-use crate::field::is_named;
 use gw_text::Field;
 
 /// What was seen of codings.
@@ -37,7 +36,7 @@ pub fn codings_of(fields: &[Field]) -> Coded
 fn with_field(before: Coded, field: &Field) -> Coded
     ensures { result ≡ fold note before (codings (field.now ∷ [])) }
 {
-    if !is_named(field, b"transfer-encoding") {
+    if !field.is_named(b"transfer-encoding") {
         return before;
     }
     with_value(before, field.value.bytes())

@@ -1,6 +1,5 @@
 ghost use Rattle.std.specs.Prelude.{◌≡◌, ℕ, [], ◌∷◌, ◌++◌, List, Bool};
 ghost use Rattle.std.specs.List.{list_all, list_any};
-ghost use Rattle.gw_text.specs.model.Fields.{same_field_name};
 ghost use Rattle.gw_messages.specs.model.Values.{are_one_number, has_element, has_field, is_same_number, values_of};
 ghost use Rattle.gw_messages.specs.Fields.{Shows};
 
@@ -8,18 +7,11 @@ use crate::element;
 use crate::number::{is_number, without_zeros};
 use gw_text::Field;
 
-/// Whether the field has this name, in upper or lower case.
-pub fn is_named(field: &Field, name: &[u8]) -> bool
-    ensures { result ≡ same_field_name field.now.name name.now }
-{
-    field.name.bytes().eq_ignore_ascii_case(name)
-}
-
 /// Whether some field has this name.
 pub fn has_field(fields: &[Field], name: &[u8]) -> bool
     ensures { result ≡ has_field name.now fields.now }
 {
-    fields.iter().any(|field| is_named(field, name))
+    fields.iter().any(|field| field.is_named(name))
 }
 
 /// Whether a field of this name has the word among its elements.
@@ -37,7 +29,7 @@ pub fn has_element(fields: &[Field], name: &[u8], word: &[u8]) -> bool
 fn names_element(field: &Field, name: &[u8], word: &[u8]) -> bool
     ensures { result ≡ has_element word.now (values_of name.now (field.now ∷ [])) }
 {
-    if !is_named(field, name) {
+    if !field.is_named(name) {
         return false;
     }
     element::has_element(field.value.bytes(), word)
@@ -58,7 +50,7 @@ fn are_same_number(fields: &[Field], name: &[u8], first: &[u8]) -> bool
 fn agrees(field: &Field, name: &[u8], first: &[u8]) -> bool
     ensures { result ≡ list_all (is_same_number first.now) (values_of name.now (field.now ∷ [])) }
 {
-    if !is_named(field, name) {
+    if !field.is_named(name) {
         return true;
     }
     is_same_number(first, field.value.bytes())
@@ -92,7 +84,7 @@ pub fn values_of<'f>(fields: &'f [Field], name: &[u8]) -> Values<'f>
 fn with_field<'f>(values: Values<'f>, field: &'f Field, name: &[u8]) -> Values<'f>
     ensures { (xs : List (List ℕ)) → Shows xs values.entry → Shows (xs ++ values_of name.now (field.now ∷ [])) result }
 {
-    if !is_named(field, name) {
+    if !field.is_named(name) {
         return values;
     }
     with_value(values, field.value.bytes())

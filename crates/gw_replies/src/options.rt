@@ -8,7 +8,6 @@ ghost use Rattle.gw_text.specs.model.Fields.{same_field_name};
 ghost use Rattle.gw_replies.specs.model.Hops.{connection_options};
 
 use gw_messages::element::{first_element, trim};
-use gw_messages::field::is_named;
 use gw_text::{Field, NoMemory};
 use std::alloc::Global;
 use std::cmp::Ordering;
@@ -65,7 +64,7 @@ fn gather<'f>(alloc: Global, fields: &'f [Field]) -> Result<Vec<&'f [u8]>, NoMem
 fn push_options<'f>(names: &mut Vec<&'f [u8]>, field: &'f Field) -> Result<(), NoMemory>
     ensures { OnOk result (map (λ n. n.now) names.new.items ≡ map (λ n. n.now) names.old.items ++ connection_options (field.now ∷ [])) }
 {
-    if is_named(field, b"connection") {
+    if field.is_named(b"connection") {
         push_elements(names, field.value.bytes())?;
     }
     Ok(())

@@ -60,16 +60,16 @@ module _ {T : Type 0} (same : T → T → Bool) where
   -- Whether a test holds of what is left: of the next item, unless it is repeated, and of the rest.
   pub all_more : (test : T → Bool) (items : List T) (i : ℕ) (x : T) → i < length items → x ≡ get_or items i x
       → list_all test (left_of (take i items) (drop i items))
-      ≡ ((list_any (λ b. same b x) (take i items) || test x) && list_all test (left_of (take (i + 1) items) (drop (i + 1) items)))
+      ≡ ((test x || list_any (λ b. same b x) (take i items)) && list_all test (left_of (take (i + 1) items) (drop (i + 1) items)))
   all_more test items i x within is = ap (list_all test) (left_more items i x within is) ∙ by (list_any (λ b. same b x) (take i items)) refl
     where
       rest : List T
       rest = left_of (take (i + 1) items) (drop (i + 1) items)
 
       by : (b : Bool) → list_any (λ b. same b x) (take i items) ≡ b
-          → list_all test (filter (is_new_to (take i items)) (x ∷ []) ++ rest) ≡ ((list_any (λ b. same b x) (take i items) || test x) && list_all test rest)
-      by true e = rw e refl
-      by false e = rw e refl
+          → list_all test (filter (is_new_to (take i items)) (x ∷ []) ++ rest) ≡ ((test x || list_any (λ b. same b x) (take i items)) && list_all test rest)
+      by true e = rw (e, or-true) refl
+      by false e = rw (e, or-false) refl
 
   -- How many are left: one more where the next item isn't repeated.
   pub count_more : (items : List T) (i : ℕ) (x : T) → i < length items → x ≡ get_or items i x

@@ -1,5 +1,5 @@
 pub mod Combined
+pub mod Cuts
 pub mod Firsts
 pub mod Foremost
 pub mod Ordered
-pub mod Parameters

@@ -1,4 +1,5 @@
 pub mod Combined
+pub mod Cut
 pub mod Kept
 pub mod Parts
 pub mod model

@@ -3,6 +3,7 @@ ghost use Rattle.gw_text.specs.model.Matches.{path_fits};
 ghost use Rattle.gw_rows.specs.model.Fitting as rules;
 
 use crate::headers::headers_fit;
+use crate::parameters::Parameters;
 use crate::query::query_fits;
 use crate::row::Row;
 use gw_frames::Request;
@@ -45,9 +46,10 @@ fn method_fits(asked: &Option<Text>, method: &Text) -> bool
     }
 }
 
-/// The first test of the row that doesn't hold of the request.
+/// The first test of the row that doesn't hold of the request, whose parameters were cut.
 #[tactic(auto, unfolding(crate::specs::model::Fitting::failed_test))]
-pub fn failed_test(row: &Row, request: &Request) -> Option<Test>
+pub fn failed_test_with(row: &Row, request: &Request, parameters: &Parameters) -> Option<Test>
+    requires { parameters.now ≡ rules.parameters_of request.now.query }
     ensures { result ≡ rules.failed_test row.now request.now }
 {
     if !hostname_fits(&row.hostname, &request.host) {
@@ -62,16 +64,31 @@ pub fn failed_test(row: &Row, request: &Request) -> Option<Test>
     if !headers_fit(&row.test.headers, request.fields.as_slice()) {
         return Some(Test::Headers);
     }
-    if !query_fits(&row.test.query_params, &request.query) {
+    if !query_fits(&row.test.query_params, parameters) {
         return Some(Test::Query);
     }
     None
 }
 
-/// Whether all tests of the row hold of the request.
+/// The first test of the row that doesn't hold of the request.
+pub fn failed_test(row: &Row, request: &Request) -> Option<Test>
+    ensures { result ≡ rules.failed_test row.now request.now }
+{
+    failed_test_with(row, request, &Parameters::uncut(&request.query))
+}
+
+/// Whether all tests of the row hold of the request, whose parameters were cut.
 #[tactic(auto, unfolding(crate::specs::model::Fitting::fits, crate::specs::model::Fitting::failed_test))]
+pub fn fits_with(row: &Row, request: &Request, parameters: &Parameters) -> bool
+    requires { parameters.now ≡ rules.parameters_of request.now.query }
+    ensures { result ≡ rules.fits row.now request.now }
+{
+    failed_test_with(row, request, parameters).is_none()
+}
+
+/// Whether all tests of the row hold of the request.
 pub fn fits(row: &Row, request: &Request) -> bool
     ensures { result ≡ rules.fits row.now request.now }
 {
-    failed_test(row, request).is_none()
+    fits_with(row, request, &Parameters::uncut(&request.query))
 }

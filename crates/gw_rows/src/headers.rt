@@ -52,7 +52,7 @@ fn has_combined_value(fields: &[Field], name: &Text, text: &Text) -> bool
     let mut rest = text.bytes();
     let mut found = false;
     'fields: for field in fields {
-        if field.is_named(name) {
+        if field.is_named(name.bytes()) {
             match after_value(rest, found, field.value.bytes()) {
                 Some(left) => rest = left,
                 None => return false,
@@ -72,11 +72,11 @@ fn header_fits(fields: &[Field], header: &HeaderMatch) -> bool
     }
 }
 
-// Whether a match holds, or is repeated.
+// Whether a match holds, or is repeated: only where it doesn't hold are those before it looked at.
 fn holds(before: &[HeaderMatch], header: &HeaderMatch, fields: &[Field]) -> bool
-    ensures { result ≡ (list_any (λ h. rules.same_header h header.now) before.now || rules.header_fits fields.now header.now) }
+    ensures { result ≡ (rules.header_fits fields.now header.now || list_any (λ h. rules.same_header h header.now) before.now) }
 {
-    is_repeated(before, header) || header_fits(fields, header)
+    header_fits(fields, header) || is_repeated(before, header)
 }
 
 /// Whether the fields are as all these matches ask.

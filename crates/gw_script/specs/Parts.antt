@@ -4,7 +4,7 @@ use Rattle.std.specs.Char.{is_ascii_alphanumeric}
 use Rattle.std.specs.List.{list_all, list_any, before_first, after_first}
 use Rattle.gw_link.specs.declared.order.UpstreamCall.{UpstreamCall}
 use Rattle.gw_link.specs.declared.order.UpstreamCall.TheVariants.{Connect, Send, Receive}
-use Rattle.gw_word.specs.Quoted.{quoted_bytes}
+use Rattle.gw_requests.specs.Quoted.{quoted_bytes}
 
 abbrev pub is_space : ℕ → Bool
 is_space b = b == 32

@@ -12,7 +12,7 @@ use Rattle.std.specs.Str.{is_utf8}
 use Rattle.gw_text.specs.model.Addresses.{socket_of}
 use Rattle.gw_text.specs.model.Chains.{◌>>=◌}
 use Rattle.gw_json.specs.Lines.{max_line}
-use Rattle.gw_word.specs.Numbers.{number_below}
+use Rattle.gw_requests.specs.Numbers.{number_below}
 use Rattle.gw_script.specs.Parts.{first_part, other_parts, last_part, before_last, name_of, is_quoted, text_of, call_of}
 use Rattle.gw_script.specs.Steps.{Step, an_event, a_publication, a_beginning, a_sending, an_end, an_answer, a_failure}
 use Rattle.gw_script.specs.declared.refusal.StepRefusal.{StepRefusal}

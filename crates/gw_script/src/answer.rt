@@ -5,7 +5,7 @@ ghost use Rattle.gw_script.specs.Readings.{Reads};
 
 use crate::part::{cut_last, is_quoted, text_of};
 use crate::refusal::StepRefusal;
-use gw_word::number_below;
+use gw_requests::number_below;
 use std::alloc::Global;
 
 // One more than the most that a text is filled with.

@@ -9,7 +9,7 @@ use crate::part::{call_of, cut, name_of, socket, text_of};
 use crate::refusal::StepRefusal;
 use crate::step::Step;
 use gw_json::MAX_LINE;
-use gw_word::number_below;
+use gw_requests::number_below;
 use std::alloc::Global;
 use std::str;
 

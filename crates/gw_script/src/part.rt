@@ -8,8 +8,8 @@ ghost use Rattle.gw_script.specs.Readings.{Reads};
 
 use crate::refusal::StepRefusal;
 use gw_link::UpstreamCall;
+use gw_requests::quoted_bytes;
 use gw_text::{Socket, TextFault};
-use gw_word::quoted_bytes;
 use std::alloc::Global;
 
 /// The first part, and what follows it: nothing where there is one part alone.

@@ -1,3 +1,4 @@
+use crate::shared::Shared;
 use crate::state::{GatewayState, ListenerState};
 use gw_text::{Condition, Key, List, Name, NamespaceName, Text};
 use std::marker::Model;
@@ -9,13 +10,13 @@ pub type ClassStatuses = List<ClassStatus>;
 pub type ListenerStatuses = List<ListenerStatus>;
 
 /// The statuses of Gateways, in key order.
-pub type GatewayStatuses = List<GatewayStatus>;
+pub type GatewayStatuses = List<Shared<GatewayStatus>>;
 
 /// The entries of a Route, in the order of its parentRefs.
 pub type ParentStatuses = List<ParentStatus>;
 
 /// The statuses of Routes, in key order.
-pub type RouteStatuses = List<RouteStatus>;
+pub type RouteStatuses = List<Shared<RouteStatus>>;
 
 /// The status of a GatewayClass.
 #[derive(Drop)]

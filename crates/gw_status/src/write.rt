@@ -5,6 +5,7 @@ ghost use Rattle.gw_json.specs.Lines.{line_of};
 ghost use Rattle.gw_status.specs.StatusText.{truth_text, condition_data, http_route_data, supported_kinds, class_data, listener_data, address_data, addresses_of, gateway_status_data, gateway_data, route_data, route_line, classes_text, gateways_text, routes_text, statuses_text};
 
 use crate::send::RouteLine;
+use crate::shared::Shared;
 use crate::status::{ClassStatus, GatewayStatus, ListenerStatus, RouteStatus, Statuses};
 use gw_json::push_line;
 use gw_text::{Condition, GATEWAY_GROUP, NoMemory, Socket, Text};
@@ -152,7 +153,7 @@ fn push_classes(alloc: Global, statuses: &[ClassStatus], text: &mut String) -> R
 
 fn push_gateways(
     alloc: Global,
-    statuses: &[GatewayStatus],
+    statuses: &[Shared<GatewayStatus>],
     text: &mut String,
 ) -> Result<(), NoMemory>
     ensures { OnOk result (string_bytes text.new ≡ string_bytes text.old ++ gateways_text statuses.now) }
@@ -184,7 +185,11 @@ fn push_route(alloc: Global, status: &RouteStatus, text: &mut String) -> Result<
     text.push('\n')
 }
 
-fn push_routes(alloc: Global, statuses: &[RouteStatus], text: &mut String) -> Result<(), NoMemory>
+fn push_routes(
+    alloc: Global,
+    statuses: &[Shared<RouteStatus>],
+    text: &mut String,
+) -> Result<(), NoMemory>
     ensures { OnOk result (string_bytes text.new ≡ string_bytes text.old ++ routes_text statuses.now) }
 {
     'statuses: for status in statuses {

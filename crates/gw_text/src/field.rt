@@ -29,10 +29,10 @@ impl Model for Field {
 
 impl Field {
     /// Whether the field has this name, in upper or lower case.
-    pub fn is_named(&self, name: &Text) -> bool
+    pub fn is_named(&self, name: &[u8]) -> bool
         ensures { result ≡ same_field_name self.now.name name.now }
     {
-        self.name.bytes().eq_ignore_ascii_case(name.bytes())
+        self.name.bytes().eq_ignore_ascii_case(name)
     }
 
     /// The same field once more.

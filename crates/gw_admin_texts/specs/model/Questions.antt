@@ -8,7 +8,7 @@ use Rattle.gw_json.specs.Fields.{Node, count_of, need_of, number_of, text_of}
 use Rattle.gw_json.specs.Lines.{max_line, value_of}
 use Rattle.gw_json.specs.Words.{◌>>=◌, or, want}
 use Rattle.gw_frames.specs.model.Requests.{Request}
-use Rattle.gw_word.specs.Quoted.{bytes_in}
+use Rattle.gw_requests.specs.Quoted.{bytes_in}
 use Rattle.gw_requests.specs.Requests.{IsRequest}
 use Rattle.gw_rows.specs.model.Rows.{Rows}
 use Rattle.gw_decide.specs.ExplainText.{explain_text}

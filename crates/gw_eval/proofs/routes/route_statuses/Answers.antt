@@ -28,7 +28,7 @@ routes-preserved g c =
     let done = c.in_ok-entries.ensures in
     record {
       home = search rules;
-      statuses = mapped_step (route_status_of controller world) _ c.routes.all.items (c.in_ok-route_status.field-0 ∷ []) (objects_of (take i world.routes)) (item.object ∷ []) _
+      statuses = mapped_step (route_status_of controller world) _ c.routes.all.items (c.in_ok-shared_status.field-0 ∷ []) (objects_of (take i world.routes)) (item.object ∷ []) _
           c.in_ok-push.ensures.items c.routes.invariant.statuses (ap (λ s. s ∷ []) (search rules)) (objects_more world.routes i item within here);
       counted = of_one_more controller world i item c.routes.counts _ within here c.routes.invariant.counted done.rows (rw c.deref-in-routes-3.ensures at done.numbers);
       steps = search rules;

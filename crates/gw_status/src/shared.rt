@@ -1,0 +1,52 @@
+//! Handles.
+ghost use Rattle.std.specs.Prelude.{◌≡◌, IfOk};
+
+use gw_text::NoMemory;
+use std::alloc::Global;
+use std::marker::Model;
+use std::ops::Deref;
+use std::sync::Arc;
+
+/// A handle on something that isn't copied where many hold it.
+#[derive(Drop)]
+pub struct Shared<T: Drop> {
+    value: Arc<T>,
+}
+
+impl<T: Drop> Model for Shared<T> {
+    ghost use Rattle.std.specs.Arc.{arc_value};
+
+    ghost Value = { T };
+
+    ghost view = { λ s. arc_value s.value };
+}
+
+impl<T: Drop> Shared<T> {
+    /// The value, on the heap.
+    pub fn new(alloc: Global, value: T) -> Result<Self, NoMemory>
+        ensures { IfOk result (λ s. s ≡ value) }
+    {
+        Ok(Shared {
+            value: Arc::new(alloc, value)?,
+        })
+    }
+
+    /// One handle more on the same value.
+    pub fn share(&self) -> Result<Self, NoMemory>
+        ensures { IfOk result (λ s. s ≡ self.now) }
+    {
+        Ok(Shared {
+            value: self.value.clone()?,
+        })
+    }
+}
+
+impl<T: Drop> Deref for Shared<T> {
+    type Target = T;
+
+    ghost deref_gives = { λ x y. y ≡ x };
+
+    fn deref(&self) -> &T {
+        &self.value
+    }
+}
