@@ -1,2 +1,3 @@
+pub mod Generating
 pub mod Running
 pub mod Serving

@@ -52,7 +52,7 @@ pub record Ended (code : ℕ) (words : List (List ℕ)) (told : Option (List ℤ
   pub few : (code ≡ 2 → ⊥) × (code ≡ 3 → ⊥) × (code ≡ 6 → ⊥) × (code ≡ 7 → ⊥)
   pub complete : (HasRisen faults faults' → ⊥) → (HasRisen snap.places snap'.places → ⊥) → (HasRisen snap.ahead snap'.ahead → ⊥) → code < 2
 
-of_bool : (b : Bool) → (if b then 1 else 0) < 2
+pub of_bool : (b : Bool) → (if b then 1 else 0) < 2
 of_bool true = omega arith
 of_bool false = omega arith
 

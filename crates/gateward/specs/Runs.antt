@@ -3,16 +3,18 @@ use Rattle.std.specs.Prelude.{◌≡◌, ℕ, ℤ, ⊤, ◌+◌, ◌<◌, ◌⊎
 use Rattle.gw_link.specs.Faults.{HasRisen}
 use Rattle.gw_link.specs.Pieces.{Takes, TakesPart}
 use Rattle.gw_command.specs.Faults.{exit_code, fault_line}
-use Rattle.gw_command.specs.Starts.{Setting, Starts, a_service}
+use Rattle.gw_command.specs.Starts.{Setting, Starts, a_generation, a_service}
+use Rattle.gw_command.specs.Words.{GenerateWords}
 use Rattle.gw_command.specs.declared.fault.Fault.{Fault}
 use Rattle.gw_command.specs.declared.fault.Fault.TheVariants.{WriteFailed, NotBound, NotStarted, NoPlace, NoMemory}
 use Rattle.gw_replay.specs.declared.ending.Ending.{Ending}
 use Rattle.gw_replay.specs.declared.ending.Ending.TheVariants.{Done, Place, Ahead}
+use Rattle.gw_snap.specs.Counts.{Counts}
 use Rattle.gw_serve.specs.Serving.{Leaves, job_count, ready_line}
 use Rattle.gw_serve.specs.declared.fault.ServeFault.{ServeFault}
 use Rattle.gw_serve.specs.declared.fault.ServeFault.TheVariants as serving
 use Rattle.gw_text.specs.model.Addresses.{Socket}
-use Rattle.gateward.specs.Outputs.{IsOutput}
+use Rattle.gateward.specs.Outputs.{IsGenerated, IsOutput}
 
 -- The exit code of an ending: whether a line was refused, or why a script was given up.
 abbrev pub code_of : Ending → ℕ
@@ -72,6 +74,31 @@ Finishes code Ahead text before after faults faults' = (code ≡ code_of Ahead) 
 -- The exit codes of a run: 0, 1, that of a script whose worker was ahead, and those of the faults.
 abbrev pub IsExit : ℕ → Type 0
 IsExit code = (code < 2) ⊎ ((code ≡ code_of Ahead) ⊎ ((fault : Fault) × (code ≡ exit_code fault)))
+
+-- The words set it to write a script, or to run it.
+pub record SetToGenerate (words : List (List ℕ)) : Type 0 where
+  pub setting : Setting
+  pub generation : GenerateWords
+  pub start : Starts words (Ok setting)
+  pub task : setting.task ≡ a_generation generation
+
+-- What is written of a script came to this end, and was written as this exit code says.
+pub record Generates (code : ℕ) (generation : GenerateWords) (told : Option (List ℤ)) (before after : Option (List ℕ)) (faults faults' : ℕ) : Type 0 where
+  pub ending : Ending
+  pub text : List ℕ
+  pub output : IsGenerated generation told ending text
+  pub finishes : Finishes code ending text before after faults faults'
+
+-- An exit code of a text, or of want of memory for it, with its cause.
+pub record HasEnded (code sink sink' : ℕ) (snap snap' : Counts) : Type 0 where
+  pub exits : IsExit code
+  pub uncounted : code < 2 → snap' ≡ snap
+  pub place : code ≡ code_of Place → HasRisen snap.places snap'.places
+  pub above : code ≡ code_of Ahead → HasRisen snap.ahead snap'.ahead
+  pub failed : code ≡ exit_code WriteFailed → HasRisen sink sink'
+  pub others : (code ≡ 2 → ⊥) × (code ≡ 3 → ⊥) × (code ≡ 7 → ⊥)
+  pub complete : (HasRisen sink sink' → ⊥) → (HasRisen snap.places snap'.places → ⊥) → (HasRisen snap.ahead snap'.ahead → ⊥)
+      → (code < 2) ⊎ (code ≡ exit_code NoMemory)
 
 -- The fault by which a service ends.
 abbrev pub service_fault : ServeFault → Fault

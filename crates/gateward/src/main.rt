@@ -1,7 +1,8 @@
 //! gateward: a Gateway API controller. `gateward status` reads watch events, one JSON object a line, and prints the
 //! statuses of the objects that are held after them; `gateward explain` prints what becomes of a request by them;
-//! `gateward replay` reads a script of events and connections, and prints what the connections are served; `gateward serve`
-//! takes events at an admin endpoint, and serves the connections at its doors by them.
+//! `gateward replay` reads a script of events and connections, and prints what the connections are served; `gateward generate`
+//! writes such a script, drawn from a seed, or runs it; `gateward serve` takes events at an admin endpoint, and serves the
+//! connections at its doors by them.
 #![tactic(auto)]
 
 mod output;

@@ -6,10 +6,11 @@ ghost use Rattle.gw_command.specs.Faults.{exit_code, fault_line};
 ghost use Rattle.gw_serve.specs.Serving.{Leaves, job_count, most_workers, ready_line};
 ghost use Rattle.gw_serve.specs.declared.fault.ServeFault.{ServeFault};
 ghost use Rattle.gw_command.specs.Starts.{Setting as PlainSetting, Starts};
-ghost use Rattle.gateward.specs.Runs.{EndsAtStart, Finishes, GivesUp, HasFailed, HasServed, IsCaused, IsExit, SetToServe, WritesText, WritesFront, WritesPiece, code_of, service_fault};
+ghost use Rattle.gw_command.specs.Words.{most_requests, most_routes};
+ghost use Rattle.gateward.specs.Runs.{EndsAtStart, Finishes, Generates, GivesUp, HasEnded, HasFailed, HasServed, IsCaused, IsExit, SetToGenerate, SetToServe, WritesText, WritesFront, WritesPiece, code_of, service_fault};
 
-use crate::output::output_of;
-use gw_command::{Fault, Setting, start};
+use crate::output::{generation_output, output_of};
+use gw_command::{Fault, GenerateWords, Setting, start};
 use gw_edge::{Acceptor, Crew, Edge};
 use gw_link::{Clock, Link, ReadFault, Sink, Source, Upstream, read_all, write_all};
 use gw_replay::{Ending, Replayed};
@@ -49,14 +50,19 @@ pub fn run<
     crew: &mut W,
     snap: &mut SnapFaults,
 ) -> u8
-    // Where it serves, connections were served by all jobs to their ends. Where the source tells, its bytes were read to their end, and
-    // the exit code is that of their lines; where the sink tells too, it has their text.
+    // Where it serves, connections were served by all jobs to their ends. Where it writes a script or runs it, that is said below. Else, where
+    // the source tells, its bytes were read to their end, and the exit code is that of their lines; where the sink tells too, it has their text.
     ensures text { result < 2 → ((result ≡ 0) × HasServed (map string_bytes words.now) (K.written sink.old) (K.written sink.new) (W.started crew.old) (W.started crew.new) (W.ended crew.new))
-        ⊎ IfSome (S.left source.old) (λ input.
-        WritesText result (map string_bytes words.now) input (C.moments clock) (S.left source.new) (K.written sink.old) (K.written sink.new)) }
+        ⊎ (SetToGenerate (map string_bytes words.now) ⊎ IfSome (S.left source.old) (λ input.
+        WritesText result (map string_bytes words.now) input (C.moments clock) (S.left source.new) (K.written sink.old) (K.written sink.new))) }
     ensures served { result < 2 → SetToServe (map string_bytes words.now) →
         (result ≡ 0) × HasServed (map string_bytes words.now) (K.written sink.old) (K.written sink.new) (W.started crew.old) (W.started crew.new) (W.ended crew.new) }
     ensures uncounted { result < 2 → snap.new ≡ snap.old }
+
+    // A script is written, or run, without any input, unless memory was wanting.
+    ensures generated { (set : SetToGenerate (map string_bytes words.now)) → (result ≡ exit_code Fault.NoMemory)
+        ⊎ Generates result set.generation (C.moments clock) (K.written sink.old) (K.written sink.new) (K.faults sink.old) (K.faults sink.new) }
+    ensures no_input { SetToGenerate (map string_bytes words.now) → source.new ≡ source.old }
 
     // Words that are no command's, and doors that break a rule, end the run by this fault or for want of memory, and
     // leave the source as it was.
@@ -70,13 +76,13 @@ pub fn run<
         × (IsCaused fault snap.old.places snap.new.places (E.faults edge.old) (E.faults edge.new) (K.faults sink.old) (K.faults sink.new) (W.faults crew.old) (W.faults crew.new)
         × HasFailed fault (map string_bytes words.now) (K.written sink.old) (K.written sink.new) (K.faults sink.old) (K.faults sink.new) (W.started crew.old) (W.started crew.new))))
         ⊎ EndsAtStart result (map string_bytes words.now) (K.written sink.old) (K.written sink.new) (K.faults sink.old) (K.faults sink.new)
-        ⊎ (HasRisen snap.old.places snap.new.places × IfSome (S.left source.old) (λ input.
-        GivesUp Ending.Place (map string_bytes words.now) input (C.moments clock) (S.left source.new) (K.written sink.old) (K.written sink.new) (K.faults sink.old) (K.faults sink.new))) }
+        ⊎ (HasRisen snap.old.places snap.new.places × (SetToGenerate (map string_bytes words.now) ⊎ IfSome (S.left source.old) (λ input.
+        GivesUp Ending.Place (map string_bytes words.now) input (C.moments clock) (S.left source.new) (K.written sink.old) (K.written sink.new) (K.faults sink.old) (K.faults sink.new)))) }
 
     // A script ends it where a worker had seen more than was published, which is counted.
     ensures above { result ≡ code_of Ending.Ahead →
-        HasRisen snap.old.ahead snap.new.ahead × IfSome (S.left source.old) (λ input.
-        GivesUp Ending.Ahead (map string_bytes words.now) input (C.moments clock) (S.left source.new) (K.written sink.old) (K.written sink.new) (K.faults sink.old) (K.faults sink.new)) }
+        HasRisen snap.old.ahead snap.new.ahead × (SetToGenerate (map string_bytes words.now) ⊎ IfSome (S.left source.old) (λ input.
+        GivesUp Ending.Ahead (map string_bytes words.now) input (C.moments clock) (S.left source.new) (K.written sink.old) (K.written sink.new) (K.faults sink.old) (K.faults sink.new))) }
 
     // Each other exit code comes only with its cause.
     ensures read { result ≡ exit_code Fault.ReadFailed → HasRisen (S.faults source.old) (S.faults source.new) }
@@ -88,8 +94,8 @@ pub fn run<
 
     // What each of them writes.
     ensures read_line { result ≡ exit_code Fault.ReadFailed → WritesPiece (K.written sink.old) (fault_line Fault.ReadFailed) (K.written sink.new) (K.faults sink.old) (K.faults sink.new) }
-    ensures front { result ≡ exit_code Fault.WriteFailed → (SetToServe (map string_bytes words.now) × TakesPart (K.written sink.old) ready_line (K.written sink.new)) ⊎ IfSome (S.left source.old) (λ input.
-        WritesFront (map string_bytes words.now) input (C.moments clock) (K.written sink.old) (K.written sink.new)) }
+    ensures front { result ≡ exit_code Fault.WriteFailed → (SetToServe (map string_bytes words.now) × TakesPart (K.written sink.old) ready_line (K.written sink.new)) ⊎ (SetToGenerate (map string_bytes words.now) ⊎ IfSome (S.left source.old) (λ input.
+        WritesFront (map string_bytes words.now) input (C.moments clock) (K.written sink.old) (K.written sink.new))) }
     ensures nothing { result ≡ exit_code Fault.NoMemory → (SetToServe (map string_bytes words.now) × Takes (K.written sink.old) ready_line (K.written sink.new))
         ⊎ (K.written sink.new ≡ K.written sink.old) }
     ensures size_line { result ≡ exit_code Fault.TooLong → WritesPiece (K.written sink.old) (fault_line Fault.TooLong) (K.written sink.new) (K.faults sink.old) (K.faults sink.new) }
@@ -129,6 +135,9 @@ pub fn run<
         return run_service::<L, A, U, K, C, E, W, R>(
             rt, alloc, service, sink, clock, edge, crew, snap,
         );
+    }
+    if let Some(generation) = setting.generation() {
+        return run_generation(rt, alloc, generation, sink, &mut clock, snap);
     }
     let input = match read_all(alloc, source) {
         Ok(input) => input,
@@ -181,6 +190,32 @@ fn run_service<
         Err(ServeFault::Write) => end(sink, Fault::WriteFailed),
         Err(ServeFault::Start) => end(sink, Fault::NotStarted),
         Err(ServeFault::NoMemory) => end(sink, Fault::NoMemory),
+    }
+}
+
+// Writes a script, or runs it and writes the last line of that.
+fn run_generation<K: Sink, C: Clock, R: Wait>(
+    rt: &R,
+    alloc: Global,
+    words: GenerateWords,
+    sink: &mut K,
+    clock: &mut C,
+    snap: &mut SnapFaults,
+) -> u8
+    requires some { 0 < words.routes }
+    requires few { words.routes ≤ most_routes }
+    requires requests { words.requests ≤ most_requests }
+    ensures generated { (result ≡ exit_code Fault.NoMemory)
+        ⊎ Generates result words (C.moments clock.old) (K.written sink.old) (K.written sink.new) (K.faults sink.old) (K.faults sink.new) }
+    ensures ends { HasEnded result (K.faults sink.old) (K.faults sink.new) snap.old snap.new }
+    ensures nothing { result ≡ exit_code Fault.NoMemory → K.written sink.new ≡ K.written sink.old }
+    ensures sink_later { K.faults sink.old ≤ K.faults sink.new }
+    ensures places { snap.old.places ≤ snap.new.places }
+    ensures ahead { snap.old.ahead ≤ snap.new.ahead }
+{
+    match generation_output(rt, alloc, words, clock, snap) {
+        Ok(output) => finish(sink, &output),
+        Err(_) => end(sink, Fault::NoMemory),
     }
 }
 

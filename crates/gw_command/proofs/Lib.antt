@@ -1,3 +1,4 @@
 pub mod Plain
+pub mod Seeds
 pub mod Starting
 pub mod Tables

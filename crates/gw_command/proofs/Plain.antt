@@ -1,15 +1,19 @@
 -- Plain words are read as they stand.
-use Rattle.std.proofs.Common.{◌≡◌, ◌∙◌, ◌==◌, ap, ap₂, subst, refl, sym, true, false, true≢false, Bool, ◌||◌, if◌then◌else◌, bytes_eq, codes, List, [], ◌∷◌, ◌++◌, map, length, Some, None, option_map}
+use Rattle.std.proofs.Common.{◌≡◌, ◌∙◌, ◌==◌, ap, ap₂, subst, refl, sym, true, false, true≢false, Bool, ◌||◌, if◌then◌else◌, bytes_eq, codes, List, [], ◌∷◌, ◌++◌, append_assoc, append-nil, fold, map, length, Some, None, option_map}
+use Rattle.std.specs.List.{list_all, flat_map}
+use Rattle.std.proofs.lemmas.List.Concat.{flat_map-append}
 use Rattle.std.proofs.lemmas.Slice.Eq.{bytes_eq-Decides}
-use Rattle.clap.specs.Walk.{Row, Text, first_of}
+use Rattle.clap.specs.Walk.{Row, Text, first_of, has_row, more_values, with_default}
+use Rattle.clap.specs.Faults.{defaults_fault}
 use Rattle.clap.specs.Simple.{App, built}
 use Rattle.clap.specs.Kinds.{Kinds}
+use Rattle.clap.specs.declared.parser.matches.ValueSource.TheVariants.{DefaultValue}
 use Rattle.clap.proofs.OnLiterals.{clap_on_literals}
 use Rattle.clap.proofs.WalkLemmas.{both}
 use Rattle.gw_text.specs.model.Chains.{◌>>=◌}
-use Rattle.gw_command.specs.Words.{status, status_app, explain, explain_app, controller_by, doors_of, doors_in, found_in, status_in, status_of, explain_in, explain_by, explain_of, replay, replay_app, replay_in, replay_by, replay_of, serve, serve_app, serve_in, serve_by, serve_of, command_of}
-use Rattle.gw_command.specs.Plain.{Plain, plain_words, is_plain, is_each_once, is_among, status_options, plain_status, explain_options, plain_explain, replay_options, plain_replay, serve_options, plain_serve, value_given, ReadsPlain}
-use Rattle.gw_command.proofs.Tables.{IsOption, TakesDoors, option_row, door_rows, plain_taken, value_in_rows, doors_in_rows, none_is_door}
+use Rattle.gw_command.specs.Words.{status, status_app, explain, explain_app, controller_by, doors_of, doors_in, found_in, status_in, status_of, explain_in, explain_by, explain_of, replay, replay_app, replay_in, replay_by, replay_of, generate, generate_app, generate_in, generate_by, generate_of, is_given, serve, serve_app, serve_in, serve_by, serve_of, command_of}
+use Rattle.gw_command.specs.Plain.{Given, Plain, PlainGenerate, written, plain_words, plain_generate_words, without_run, is_plain, is_plain_text, is_each_once, is_among, status_options, plain_status, explain_options, plain_explain, replay_options, plain_replay, generate_options, plain_generate, serve_options, plain_serve, value_given, ReadsPlain}
+use Rattle.gw_command.proofs.Tables.{IsOption, IsFlag, TakesDoors, TakesFlag, option_row, door_rows, flag_row, no_flag_row, plain_taken, flag_taken, no_flag_taken, value_in_rows, value_among, value_there, doors_in_rows, none_is, no_row, once_of, or_true, same_both, at_none}
 
 -- what is so of the first name of a table, and of the others, is so of each
 here : (P : Text → Type 0) (known name : Text) (table : List Text) → P known → (is_among table name ≡ true → P name) → is_among (known ∷ table) name ≡ true → P name
@@ -59,7 +63,7 @@ abbrev no_door : Text → Type 0
 no_door name = bytes_eq name (codes "door") ≡ false
 
 others_of : (table : List Text) (p : Plain) → ((name : Text) → is_among table name ≡ true → no_door name) → is_plain table p ≡ true → doors_in (rows_in p) ≡ p.doors
-others_of table p others plain = doors_in_rows p.options p.doors (none_is_door table p.options others (both (is_each_once table p.options) _ plain).0)
+others_of table p others plain = doors_in_rows p.options p.doors (none_is (codes "door") table p.options others (both (is_each_once table p.options) _ plain).0)
 
 status_read : (p : Plain) → is_plain status_options p ≡ true → status_of (codes "status" ∷ plain_words p) ≡ plain_status p
 unfolding status_of status_in
@@ -191,6 +195,147 @@ replay_read : (p : Plain) → is_plain replay_options p ≡ true → replay_of (
 unfolding replay_of
 replay_read p plain = ap (λ found. found >>= replay_in) (replay_found p plain) ∙ replay_values p plain
 
+-- ---- generate
+
+abbrev for_generate : App
+for_generate = built generate_app
+
+generate_has_seed : IsOption for_generate.top.rules (codes "seed")
+unfolding clap_on_literals
+generate_has_seed = record {
+  needed = false;
+  by_long = refl;
+  by_id = refl;
+  joined = λ value. refl;
+  joined_dashes = λ value. refl;
+  no_door = refl;
+  apart = refl;
+  apart_dashes = refl;
+}
+
+generate_has_routes : IsOption for_generate.top.rules (codes "routes")
+unfolding clap_on_literals
+generate_has_routes = record {
+  needed = false;
+  by_long = refl;
+  by_id = refl;
+  joined = λ value. refl;
+  joined_dashes = λ value. refl;
+  no_door = refl;
+  apart = refl;
+  apart_dashes = refl;
+}
+
+generate_has_requests : IsOption for_generate.top.rules (codes "requests")
+unfolding clap_on_literals
+generate_has_requests = record {
+  needed = false;
+  by_long = refl;
+  by_id = refl;
+  joined = λ value. refl;
+  joined_dashes = λ value. refl;
+  no_door = refl;
+  apart = refl;
+  apart_dashes = refl;
+}
+
+generate_has_run : IsFlag for_generate.top.rules (codes "run")
+unfolding clap_on_literals
+generate_has_run = record { by_long = refl; alone = refl; alone_dashes = refl }
+
+generate_each : (P : Text → Type 0) → P (codes "seed") → P (codes "routes") → P (codes "requests") → (name : Text) → is_among generate_options name ≡ true → P name
+generate_each P a b c name =
+    here P (codes "seed") name (codes "routes" ∷ codes "requests" ∷ []) a
+    (here P (codes "routes") name (codes "requests" ∷ []) b (here P (codes "requests") name [] c (nobody P name)))
+
+generate_option : (name : Text) → is_among generate_options name ≡ true → IsOption for_generate.top.rules name
+generate_option = generate_each (IsOption for_generate.top.rules) generate_has_seed generate_has_routes generate_has_requests
+
+-- the rows of a script's words: where the flag is not given, it has its default behind them
+abbrev generate_rows : List Given → Bool → List Given → List Row
+generate_rows before true behind = map option_row before ++ flag_row (codes "run") ∷ map option_row behind
+generate_rows before false behind = map option_row (before ++ behind) ++ no_flag_row (codes "run") ∷ []
+
+-- the flag that is given needs no default
+run_given : (rows : List Row) → has_row (codes "run") rows ≡ true
+    → (defaults_fault rows for_generate.top.rules ≡ []) × (fold with_default rows for_generate.top.rules ≡ rows)
+unfolding defaults_fault
+run_given rows there = (simp (or_true, same_both, there) refl, simp (same_both, there) refl)
+
+-- and one that isn't given has it
+run_left_out : (rows : List Row) → has_row (codes "run") rows ≡ false
+    → (defaults_fault rows for_generate.top.rules ≡ []) × (fold with_default rows for_generate.top.rules ≡ rows ++ no_flag_row (codes "run") ∷ [])
+unfolding defaults_fault
+run_left_out rows none = (
+  simp (or_true, same_both, none) refl,
+  simp (same_both, none) (at_none (codes "run") (more_values DefaultValue (codes "false" ∷ [])) (no_flag_row (codes "run") ∷ []) rows none),
+)
+
+generate_takes : TakesFlag for_generate.top generate_options (codes "run")
+generate_takes = record {
+  options = generate_option;
+  flag = generate_has_run;
+  others = generate_each (λ name. (bytes_eq name (codes "run") ≡ false) × (bytes_eq (codes "run") name ≡ false)) (refl, refl) (refl, refl) (refl, refl);
+  again = refl;
+  given = run_given;
+  left_out = run_left_out;
+  check = λ rows. refl;
+}
+
+run_found : (before behind : List Given) → is_each_once generate_options (before ++ behind) ≡ true → list_all (λ (o : Given). is_plain_text o.value) (before ++ behind) ≡ true
+    → found_in generate_app (codes "generate" ∷ (flat_map written before ++ codes "--run" ∷ flat_map written behind)) ≡ Some (generate_rows before true behind)
+unfolding found_in
+run_found before behind once texts =
+    ap (λ (r : Kinds × List Row). if length r.0 == 0 then Some r.1 else None) (flag_taken for_generate generate_options (codes "run") before behind generate_takes once texts)
+
+no_run_found : (options : List Given) → is_each_once generate_options options ≡ true → list_all (λ (o : Given). is_plain_text o.value) options ≡ true
+    → found_in generate_app (codes "generate" ∷ flat_map written options) ≡ Some (map option_row options ++ no_flag_row (codes "run") ∷ [])
+unfolding found_in
+no_run_found options once texts =
+    ap (λ (r : Kinds × List Row). if length r.0 == 0 then Some r.1 else None) (no_flag_taken for_generate generate_options (codes "run") options generate_takes once texts)
+
+generate_found : (before : List Given) (runs : Bool) (behind : List Given) → is_each_once generate_options (before ++ behind) ≡ true
+    → list_all (λ (o : Given). is_plain_text o.value) (before ++ behind) ≡ true
+    → found_in generate_app (codes "generate" ∷ plain_generate_words (record { before = before; runs = runs; behind = behind })) ≡ Some (generate_rows before runs behind)
+generate_found before true behind once texts =
+    ap (λ words. found_in generate_app (codes "generate" ∷ words)) (append_assoc (flat_map written before) (codes "--run" ∷ []) (flat_map written behind))
+    ∙ run_found before behind once texts
+generate_found before false behind once texts =
+    ap (λ words. found_in generate_app (codes "generate" ∷ (words ++ flat_map written behind))) (append-nil (flat_map written before))
+    ∙ ap (λ words. found_in generate_app (codes "generate" ∷ words)) (sym (flat_map-append written before behind))
+    ∙ no_run_found (before ++ behind) once texts
+
+-- an option's value is not touched by the flag's row
+generate_value : (name : Text) (before : List Given) (runs : Bool) (behind : List Given) → bytes_eq (codes "run") name ≡ false
+    → first_of name (generate_rows before runs behind) ≡ value_given name (before ++ behind)
+generate_value name before true behind other =
+    value_among name before behind (flag_row (codes "run") ∷ map option_row behind)
+    (rw other (ap (first_of name) (sym (append-nil (map option_row behind))) ∙ value_among name behind [] [] refl ∙ ap (value_given name) (append-nil behind)))
+generate_value name before false behind other =
+    value_among name (before ++ behind) [] (no_flag_row (codes "run") ∷ []) (rw other refl) ∙ ap (value_given name) (append-nil (before ++ behind))
+
+no_option_is_run : (options : List Given) → is_each_once generate_options options ≡ true → has_row (codes "run") (map option_row options) ≡ false
+no_option_is_run options once = no_row (codes "run") options (none_is (codes "run") generate_options options (λ name among. (generate_takes.others name among).0) once)
+
+generate_runs : (before : List Given) (runs : Bool) (behind : List Given) → is_each_once generate_options (before ++ behind) ≡ true
+    → is_given (first_of (codes "run") (generate_rows before runs behind)) ≡ runs
+generate_runs before true behind once =
+    ap is_given (value_there (codes "run") (map option_row before) (flag_row (codes "run")) (map option_row behind) (no_option_is_run before (once_of generate_options before behind once)) refl)
+generate_runs before false behind once =
+    ap is_given (value_there (codes "run") (map option_row (before ++ behind)) (no_flag_row (codes "run")) [] (no_option_is_run (before ++ behind) once) refl)
+
+generate_read : (p : PlainGenerate) → is_plain generate_options (without_run p) ≡ true → generate_of (codes "generate" ∷ plain_generate_words p) ≡ plain_generate p
+unfolding generate_of
+generate_read p plain =
+    let parts = both (is_each_once generate_options (p.before ++ p.behind)) _ plain in
+    let texts = both (list_all (λ (o : Given). is_plain_text o.value) (p.before ++ p.behind)) _ parts.1 in
+    let rows : List Row = generate_rows p.before p.runs p.behind in
+    ap (λ found. found >>= generate_in) (generate_found p.before p.runs p.behind parts.0 texts.0)
+    ∙ ap₂ (λ seed routes. generate_by seed routes (first_of (codes "requests") rows) (is_given (first_of (codes "run") rows)))
+    (generate_value (codes "seed") p.before p.runs p.behind refl) (generate_value (codes "routes") p.before p.runs p.behind refl)
+    ∙ ap₂ (generate_by (value_given (codes "seed") (p.before ++ p.behind)) (value_given (codes "routes") (p.before ++ p.behind)))
+    (generate_value (codes "requests") p.before p.runs p.behind refl) (generate_runs p.before p.runs p.behind parts.0)
+
 -- ---- serve
 
 abbrev for_serve : App
@@ -283,5 +428,6 @@ plain_is_read words = record {
   status = λ p plain are. ap command_of are ∙ ap (option_map status) (status_read p plain);
   explain = λ p plain are. ap command_of are ∙ ap (option_map explain) (explain_read p plain);
   replay = λ p plain are. ap command_of are ∙ ap (option_map replay) (replay_read p plain);
+  generate = λ p plain are. ap command_of are ∙ ap (option_map generate) (generate_read p plain);
   serve = λ p plain are. ap command_of are ∙ ap (option_map serve) (serve_read p plain);
 }

@@ -4,7 +4,7 @@ use Rattle.gw_frames.specs.model.Requests.{Request}
 use Rattle.gw_requests.specs.Requests.{IsRequestOf}
 use Rattle.gw_requests.proofs.Requests.{holds_unique}
 use Rattle.gw_command.specs.Starts.{Setting, Starts, StartsBy, an_explanation, with_task}
-use Rattle.gw_command.specs.Words.{Command, status, explain, replay, serve, command_of}
+use Rattle.gw_command.specs.Words.{Command, status, explain, replay, generate, serve, command_of}
 use Rattle.gw_command.specs.declared.fault.Fault.{Fault}
 
 first_same : (q p : Request) → (q ∷ []) ≡ (p ∷ []) → q ≡ p
@@ -24,6 +24,7 @@ by_command : (c : Option Command) (a b : Result Setting Fault) → StartsBy c a 
 by_command None a b x y = x ∙ sym y
 by_command (Some (status words)) a b x y = x ∙ sym y
 by_command (Some (replay words)) a b x y = x ∙ sym y
+by_command (Some (generate words)) a b x y = x ∙ sym y
 by_command (Some (serve words)) a b x y = x ∙ sym y
 by_command (Some (explain words)) a b x y =
     x.2 ∙ ap (λ (q : Option Request). with_task words.controller words.doors (option_map (an_explanation words.at) q)) (request_unique words.request x.0 y.0 x.1 y.1) ∙ sym y.2

@@ -3,16 +3,17 @@ use Rattle.std.proofs.Common.{◌≡◌, ◌∙◌, ℕ, refl, sym, ap, true, fa
 use Rattle.std.specs.List.{fold, list_all, find, flat_map, filter}
 use Rattle.std.proofs.lemmas.Slice.Eq.{bytes_eq-Decides}
 use Rattle.clap.specs.Lexer.{long_of}
-use Rattle.clap.specs.Walk.{Row, Rule, Walk, Text, positional, idle, option, walk_from, walked, used, settled, settled_rows, nothing_held, finished, at_row, without, with_values, more_values, has_row, arg_by_long, arg_by_id, arg_by_index, is_empty, with_default, first_of, all_of, is_pending}
+use Rattle.clap.specs.Walk.{Row, Rule, Walk, Text, positional, idle, option, walk_from, walked, used, settled, settled_rows, nothing_held, finished, at_row, without, with_values, more_values, has_row, arg_by_long, reading_by, arg_by_id, arg_by_index, is_empty, with_default, first_of, all_of, is_pending}
 use Rattle.clap.specs.Simple.{App, Shape, entered, with_index, filled, new_rule}
 use Rattle.clap.specs.Kinds.{Kinds, or_else}
 use Rattle.clap.specs.Faults.{walk_fault, turn_fault, settle_fault, defaults_fault, check_fault, entered_fault}
 use Rattle.clap.specs.declared.builder.action.ArgAction.TheVariants.{Set}
+use Rattle.clap.specs.declared.builder.value_parser.Reading.{Reading}
 use Rattle.clap.specs.declared.builder.value_parser.Reading.TheVariants.{AsWritten}
-use Rattle.clap.specs.declared.parser.matches.ValueSource.TheVariants.{CommandLine}
+use Rattle.clap.specs.declared.parser.matches.ValueSource.TheVariants.{CommandLine, DefaultValue}
 use Rattle.clap.proofs.WalkLemmas.{both}
 use Rattle.clap.proofs.SimpleLemmas.{is_false, is_nil}
-use Rattle.gw_command.specs.Words.{door_rule}
+use Rattle.gw_command.specs.Words.{door_rule, flag_rule}
 use Rattle.gw_command.specs.Plain.{Given, Plain, written, plain_words, is_plain, is_each_once, is_among, is_plain_text, value_given}
 
 -- ---- rows
@@ -39,15 +40,15 @@ at_past id change missing (r ∷ front) rows none =
     let parts = neither (bytes_eq r.id id) (has_row id front) none in
     rw parts.0 (ap (λ rs. r ∷ rs) (at_past id change missing front rows parts.1))
 
-at_none : (id : Text) (change : Row → List Row) (missing rows : List Row) → has_row id rows ≡ false → at_row id change missing rows ≡ rows ++ missing
+pub at_none : (id : Text) (change : Row → List Row) (missing rows : List Row) → has_row id rows ≡ false → at_row id change missing rows ≡ rows ++ missing
 at_none id change missing rows none =
     ap (at_row id change missing) (sym (append-nil rows)) ∙ at_past id change missing rows [] none
 
-added : (id value : Text) (rows : List Row) → has_row id rows ≡ false
-    → with_values id AsWritten CommandLine (value ∷ []) (without id rows) ≡ rows ++ row id (value ∷ []) ∷ []
-added id value rows none =
-    ap (with_values id AsWritten CommandLine (value ∷ [])) (at_none id (λ _. []) [] rows none ∙ append-nil rows)
-    ∙ at_none id (more_values CommandLine (value ∷ [])) (row id (value ∷ []) ∷ []) rows none
+added : (id : Text) (how : Reading) (value : Text) (rows : List Row) → has_row id rows ≡ false
+    → with_values id how CommandLine (value ∷ []) (without id rows) ≡ rows ++ record (row id (value ∷ [])) { reading = how } ∷ []
+added id how value rows none =
+    ap (with_values id how CommandLine (value ∷ [])) (at_none id (λ _. []) [] rows none ∙ append-nil rows)
+    ∙ at_none id (more_values CommandLine (value ∷ [])) (record (row id (value ∷ [])) { reading = how } ∷ []) rows none
 
 abbrev door : Rule
 door = with_index 1 (filled door_rule)
@@ -61,11 +62,11 @@ and_false : (b : Bool) → (b && false) ≡ false
 and_false true = refl
 and_false false = refl
 
-or_true : (b : Bool) → (b || true) ≡ true
+pub or_true : (b : Bool) → (b || true) ≡ true
 or_true true = refl
 or_true false = refl
 
-same_both : {X : Type 0} (b : Bool) (x : X) → cond b x x ≡ x
+pub same_both : {X : Type 0} (b : Bool) (x : X) → cond b x x ≡ x
 same_both true x = refl
 same_both false x = refl
 
@@ -129,12 +130,75 @@ pub record IsOption (c : List Rule) (name : Text) : Type 0 where
   pub apart : long_of (codes "--" ++ name) ≡ Some (name, None)
   pub apart_dashes : bytes_eq (codes "--" ++ name) (45 ∷ 45 ∷ []) ≡ false
 
+-- a flag, as a built command has it
+abbrev pub flag : Text → Rule
+flag name = filled (flag_rule name)
+
+-- the rows of a flag that is given, and of one that isn't
+abbrev pub flag_row : Text → Row
+flag_row name = record { id = name; values = codes "true" ∷ []; count = None; source = Some CommandLine; reading = reading_by (flag name) }
+
+abbrev pub no_flag_row : Text → Row
+no_flag_row name = record { id = name; values = codes "false" ∷ []; count = None; source = Some DefaultValue; reading = reading_by (flag name) }
+
+-- the command has this flag
+pub record IsFlag (c : List Rule) (name : Text) : Type 0 where
+  pub by_long : arg_by_long c name ≡ Some (flag name)
+  pub alone : long_of (codes "--" ++ name) ≡ Some (name, None)
+  pub alone_dashes : bytes_eq (codes "--" ++ name) (45 ∷ 45 ∷ []) ≡ false
+
+-- the command takes this flag beside the options of a table, which are other words, and gives no other argument a default
+pub record TakesFlag (s : Shape) (table : List Text) (name : Text) : Type 0 where
+  pub options : (option : Text) → is_among table option ≡ true → IsOption s.rules option
+  pub flag : IsFlag s.rules name
+  pub others : (option : Text) → is_among table option ≡ true → (bytes_eq option name ≡ false) × (bytes_eq name option ≡ false)
+  pub again : s.args_override_self ≡ false
+  pub given : (rows : List Row) → has_row name rows ≡ true → (defaults_fault rows s.rules ≡ []) × (fold with_default rows s.rules ≡ rows)
+  pub left_out : (rows : List Row) → has_row name rows ≡ false → (defaults_fault rows s.rules ≡ []) × (fold with_default rows s.rules ≡ rows ++ no_flag_row name ∷ [])
+  pub check : (rows : List Row) → check_fault s rows false ≡ []
+
 -- the command takes DOORs, gives no argument a default, and refuses a second use
 pub record TakesDoors (s : Shape) : Type 0 where
   pub by_index : arg_by_index s.rules 1 ≡ Some door
   pub by_id : arg_by_id s.rules (codes "door") ≡ Some door
   pub again : s.args_override_self ≡ false
   pub defaults : list_all (λ a. is_empty a.defaults) s.rules ≡ true
+
+-- no option of a table without a name is called so
+pub none_is : (id : Text) (table : List Text) (options : List Given) → ((name : Text) → is_among table name ≡ true → bytes_eq name id ≡ false)
+    → is_each_once table options ≡ true → list_all (λ (o : Given). not (bytes_eq o.name id)) options ≡ true
+none_is id table [] others once = refl
+none_is id table (o ∷ options) others once =
+    let parts = both (is_among table o.name) _ once in
+    rw (others o.name parts.0) (none_is id (filter (λ n. not (bytes_eq o.name n)) table) options
+    (λ name among. others name (still_among o.name table name among).0) parts.1)
+
+-- and so none has its row
+pub no_row : (id : Text) (options : List Given) → list_all (λ (o : Given). not (bytes_eq o.name id)) options ≡ true → has_row id (map option_row options) ≡ false
+no_row id [] others = refl
+no_row id (o ∷ options) others =
+    let parts = both (not (bytes_eq o.name id)) _ others in
+    rw (is_false _ parts.0) (no_row id options parts.1)
+
+-- options of which each is there once are so without others behind them
+pub once_of : (table : List Text) (options others : List Given) → is_each_once table (options ++ others) ≡ true → is_each_once table options ≡ true
+once_of table [] others once = refl
+once_of table (o ∷ options) others once =
+    let parts = both (is_among table o.name) _ once in
+    rw parts.0 (once_of (filter (λ n. not (bytes_eq o.name n)) table) options others parts.1)
+
+each_of : (options others : List Given) → list_all (λ (o : Given). is_plain_text o.value) (options ++ others) ≡ true
+    → (list_all (λ (o : Given). is_plain_text o.value) options ≡ true) × (list_all (λ (o : Given). is_plain_text o.value) others ≡ true)
+each_of [] others texts = (refl, texts)
+each_of (o ∷ options) others texts =
+    let parts = both (is_plain_text o.value) _ texts in
+    let rest = each_of options others parts.1 in
+    (rw parts.0 rest.0, rest.1)
+
+-- a row that is there, among others
+has_row_there : (id : Text) (front : List Row) (r : Row) (rows : List Row) → bytes_eq r.id id ≡ true → has_row id (front ++ r ∷ rows) ≡ true
+has_row_there id [] r rows same = rw same refl
+has_row_there id (x ∷ front) r rows same = rw (has_row_there id front r rows same) (or_true (bytes_eq x.id id))
 
 -- ---- the walk
 
@@ -175,7 +239,7 @@ module _ (app : App) where
   joined_next held pending rows name value words o again none is new =
       next (after_option held pending) (after_option (rows ++ row name (value ∷ []) ∷ []) None) (codes "--" ++ name ++ codes "=" ++ value) words
       (simp (o.joined_dashes value, o.joined value, o.by_long, again, none, is, new) refl)
-      (simp (o.joined_dashes value, o.joined value, o.by_long, is) (ap (λ rs. after_option rs None) (added name value rows new)))
+      (simp (o.joined_dashes value, o.joined value, o.by_long, is) (ap (λ rs. after_option rs None) (added name AsWritten value rows new)))
 
   -- `--name value`, where what is pending is settled into `rows`
   apart_next : (held : List Row) (pending : Option (Text × List Text)) (rows : List Row) (name : Text) (b : ℕ) (bs : Text) (words : List Text)
@@ -194,7 +258,18 @@ module _ (app : App) where
   -- a value that is pending after its name
   pending_settles : (rows : List Row) (name value : Text) → IsOption app.top.rules name → app.top.args_override_self ≡ false → has_row name rows ≡ false
       → (settle_fault app.top.rules false (after_option rows (Some (name, value ∷ []))).held ≡ []) × (settled_rows app.top.rules (Some (name, value ∷ [])) rows ≡ rows ++ row name (value ∷ []) ∷ [])
-  pending_settles rows name value o again new = (simp (o.by_id, new) refl, simp o.by_id (added name value rows new))
+  pending_settles rows name value o again new = (simp (o.by_id, new) refl, simp o.by_id (added name AsWritten value rows new))
+
+  -- a flag, where what is pending is settled into `rows`
+  flag_next : (held : List Row) (pending : Option (Text × List Text)) (rows : List Row) (name : Text) (words : List Text)
+      → IsFlag app.top.rules name → app.top.args_override_self ≡ false
+      → settle_fault app.top.rules false (after_option held pending).held ≡ [] → settled_rows app.top.rules pending held ≡ rows → has_row name rows ≡ false
+      → read_from (after_option held pending) ((codes "--" ++ name) ∷ words) ≡ read_from (after_option (rows ++ flag_row name ∷ []) None) words
+  unfolding walked
+  flag_next held pending rows name words f again none is new =
+      next (after_option held pending) (after_option (rows ++ flag_row name ∷ []) None) (codes "--" ++ name) words
+      (simp (f.alone_dashes, f.alone, f.by_long, again, none, is, new) refl)
+      (simp (f.alone_dashes, f.alone, f.by_long, is) (ap (λ rs. after_option rs None) (added name (reading_by (flag name)) (codes "true") rows new)))
 
   -- the first DOOR
   first_door : (held : List Row) (pending : Option (Text × List Text)) (rows : List Row) (b : ℕ) (bs : Text) (words : List Text)
@@ -218,11 +293,15 @@ module _ (app : App) where
       (simp (other, t.by_index, t.by_id) (ap (λ rs. after_door rs (b ∷ bs)) (door_added rows done d none)))
 
   -- the end of the words
+  ends_with : (w : Walk) (rows all : List Row) → app.top.args_override_self ≡ false → w.stopped ≡ None → settle_fault app.top.rules false w.held ≡ [] → settled_rows app.top.rules w.held.pending w.held.rows ≡ rows
+      → defaults_fault rows app.top.rules ≡ [] → fold with_default rows app.top.rules ≡ all → check_fault app.top all false ≡ [] → read_from w [] ≡ ([], all)
+  unfolding walk_fault
+  ends_with w rows all again stopped none is fault defaults check = simp (stopped, again, none, is, fault, defaults, check) refl
+
   ends : (w : Walk) (rows : List Row) → TakesDoors app.top → w.stopped ≡ None → settle_fault app.top.rules false w.held ≡ [] → settled_rows app.top.rules w.held.pending w.held.rows ≡ rows
       → check_fault app.top rows false ≡ [] → read_from w [] ≡ ([], rows)
-  unfolding walk_fault
   ends w rows t stopped none is check =
-      simp (stopped, t.again, none, is, no_default_fault rows app.top.rules t.defaults, no_defaults rows app.top.rules t.defaults, check) refl
+      ends_with w rows rows t.again stopped none is (no_default_fault rows app.top.rules t.defaults) (no_defaults rows app.top.rules t.defaults) check
 
   doors_read : (rows : List Row) (done : List Text) (d : Text) (ds : List Text) → TakesDoors app.top → has_row (codes "door") rows ≡ false → list_all is_plain_text ds ≡ true
       → check_fault app.top (rows ++ door_rows (done ++ d ∷ ds)) false ≡ []
@@ -252,28 +331,31 @@ module _ (app : App) where
       ∙ doors_read rows [] (b ∷ bs) ds t no_door parts.1 check
 
   option_read : (held : List Row) (pending : Option (Text × List Text)) (rows : List Row) (name value : Text) (is_joined : Bool) (words : List Text) (answer : Kinds × List Row)
-      → TakesDoors app.top → IsOption app.top.rules name → has_row name rows ≡ false
+      → app.top.args_override_self ≡ false → IsOption app.top.rules name → has_row name rows ≡ false
       → settle_fault app.top.rules false (after_option held pending).held ≡ [] → settled_rows app.top.rules pending held ≡ rows → is_plain_text value ≡ true
       → ((held' : List Row) (pending' : Option (Text × List Text)) → settle_fault app.top.rules false (after_option held' pending').held ≡ []
       → settled_rows app.top.rules pending' held' ≡ rows ++ row name (value ∷ []) ∷ [] → read_from (after_option held' pending') words ≡ answer)
       → read_from (after_option held pending) (written (record { name = name; value = value; is_joined = is_joined }) ++ words) ≡ answer
-  option_read held pending rows name value true words answer t o new none is text onward =
-      joined_next held pending rows name value words o t.again none is new ∙ onward (rows ++ row name (value ∷ []) ∷ []) None refl refl
-  option_read held pending rows name [] false words answer t o new none is text onward = absurd (true≢false (sym text))
-  option_read held pending rows name (b ∷ bs) false words answer t o new none is text onward =
-      let settles = pending_settles rows name (b ∷ bs) o t.again new in
-      apart_next held pending rows name b bs words o t.again (is_false _ text) none is ∙ onward rows (Some (name, (b ∷ bs) ∷ [])) settles.0 settles.1
+  option_read held pending rows name value true words answer again o new none is text onward =
+      joined_next held pending rows name value words o again none is new ∙ onward (rows ++ row name (value ∷ []) ∷ []) None refl refl
+  option_read held pending rows name [] false words answer again o new none is text onward = absurd (true≢false (sym text))
+  option_read held pending rows name (b ∷ bs) false words answer again o new none is text onward =
+      let settles = pending_settles rows name (b ∷ bs) o again new in
+      apart_next held pending rows name b bs words o again (is_false _ text) none is ∙ onward rows (Some (name, (b ∷ bs) ∷ [])) settles.0 settles.1
 
-  -- the options that are still to come, of which none has a row yet
-  options_read : (table : List Text) (options : List Given) (held : List Row) (pending : Option (Text × List Text)) (rows : List Row) (ds : List Text) → TakesDoors app.top
-      → ((name : Text) → is_among table name ≡ true → IsOption app.top.rules name × (has_row name rows ≡ false))
-      → settle_fault app.top.rules false (after_option held pending).held ≡ [] → settled_rows app.top.rules pending held ≡ rows → has_row (codes "door") rows ≡ false
-      → is_each_once table options ≡ true → list_all (λ (o : Given). is_plain_text o.value) options ≡ true → list_all is_plain_text ds ≡ true
-      → check_fault app.top (rows ++ map option_row options ++ door_rows ds) false ≡ []
-      → read_from (after_option held pending) (flat_map written options ++ ds) ≡ ([], rows ++ map option_row options ++ door_rows ds)
-  options_read table [] held pending rows ds t known none is no_door once texts plain check =
-      rest_read held pending rows ds t none is no_door plain (rw (append-nil rows) at check) ∙ ap (λ rs. ([], rs ++ door_rows ds)) (sym (append-nil rows))
-  options_read table (o ∷ options) held pending rows ds t known none is no_door once texts plain check =
+  -- options that are still to come, of which none has a row yet, and others that come later: what is left of the table is for those
+  options_read : (table : List Text) (options others : List Given) (held : List Row) (pending : Option (Text × List Text)) (rows : List Row) (words : List Text) (answer : Kinds × List Row)
+      → app.top.args_override_self ≡ false → ((name : Text) → is_among table name ≡ true → IsOption app.top.rules name × (has_row name rows ≡ false))
+      → settle_fault app.top.rules false (after_option held pending).held ≡ [] → settled_rows app.top.rules pending held ≡ rows
+      → is_each_once table (options ++ others) ≡ true → list_all (λ (o : Given). is_plain_text o.value) options ≡ true
+      → ((left : List Text) (held' : List Row) (pending' : Option (Text × List Text))
+      → ((name : Text) → is_among left name ≡ true → (is_among table name ≡ true) × (has_row name (rows ++ map option_row options) ≡ false))
+      → settle_fault app.top.rules false (after_option held' pending').held ≡ [] → settled_rows app.top.rules pending' held' ≡ rows ++ map option_row options
+      → is_each_once left others ≡ true → read_from (after_option held' pending') words ≡ answer)
+      → read_from (after_option held pending) (flat_map written options ++ words) ≡ answer
+  options_read table [] others held pending rows words answer again known none is once texts onward =
+      onward table held pending (λ name among. (among, rw append-nil (known name among).1)) none (is ∙ sym (append-nil rows)) once
+  options_read table (o ∷ options) others held pending rows words answer again known none is once texts onward =
       let parts = both (is_among table o.name) _ once in
       let here = known o.name parts.0 in
       let values = both (is_plain_text o.value) _ texts in
@@ -283,12 +365,14 @@ module _ (app : App) where
       let before = known name left.0 in
       (before.0, has_row_added name rows (option_row o) before.1 left.1) in
       let all : (rows ++ option_row o ∷ []) ++ map option_row options ≡ rows ++ map option_row (o ∷ options) = append_assoc rows (option_row o ∷ []) (map option_row options) in
-      ap (read_from (after_option held pending)) (append_assoc (written o) (flat_map written options) ds)
-      ∙ option_read held pending rows o.name o.value o.is_joined (flat_map written options ++ ds) ([], rows ++ map option_row (o ∷ options) ++ door_rows ds) t here.0 here.1 none is values.0
+      ap (read_from (after_option held pending)) (append_assoc (written o) (flat_map written options) words)
+      ∙ option_read held pending rows o.name o.value o.is_joined (flat_map written options ++ words) answer again here.0 here.1 none is values.0
       (λ held' pending' none' is'.
-      options_read (filter (λ n. not (bytes_eq o.name n)) table) options held' pending' (rows ++ option_row o ∷ []) ds t later none' is'
-      (has_row_added (codes "door") rows (option_row o) no_door here.0.no_door) parts.1 values.1 plain (rw all check)
-      ∙ ap (λ rs. ([], rs ++ door_rows ds)) all)
+      options_read (filter (λ n. not (bytes_eq o.name n)) table) options others held' pending' (rows ++ option_row o ∷ []) words answer again later none' is' parts.1 values.1
+      (λ left held'' pending'' within none'' is''.
+      onward left held'' pending'' (λ name among.
+      let further = within name among in
+      ((still_among o.name table name further.0).0, ap (has_row name) (sym all) ∙ further.1)) none'' (is'' ∙ all)))
 
   -- plain words are taken, and have a row for each option and one for the DOORs
   pub plain_taken : (table : List Text) (p : Plain) → TakesDoors app.top → ((name : Text) → is_among table name ≡ true → IsOption app.top.rules name) → is_plain table p ≡ true
@@ -297,22 +381,77 @@ module _ (app : App) where
   plain_taken table p t known plain check =
       let parts = both (is_each_once table p.options) _ plain in
       let texts = both (list_all (λ (o : Given). is_plain_text o.value) p.options) _ parts.1 in
-      options_read table p.options [] None [] p.doors t (λ name among. (known name among, refl)) refl refl refl parts.0 texts.0 texts.1 check
+      options_read table p.options [] [] None [] p.doors ([], map option_row p.options ++ door_rows p.doors) t.again (λ name among. (known name among, refl)) refl refl
+      (rw append-nil parts.0) texts.0
+      (λ left held pending within none is once.
+      rest_read held pending (map option_row p.options) p.doors t none is
+      (no_row (codes "door") p.options (none_is (codes "door") table p.options (λ name among. (known name among).no_door) parts.0)) texts.1 check)
+
+  -- plain words with a flag are taken
+  pub flag_taken : (table : List Text) (name : Text) (before behind : List Given) → TakesFlag app.top table name → is_each_once table (before ++ behind) ≡ true
+      → list_all (λ (o : Given). is_plain_text o.value) (before ++ behind) ≡ true
+      → read_from (walk_from nothing_held) (flat_map written before ++ (codes "--" ++ name) ∷ flat_map written behind)
+      ≡ ([], map option_row before ++ flag_row name ∷ map option_row behind)
+  flag_taken table name before behind t once texts =
+      let rows : List Row = map option_row before ++ flag_row name ∷ [] in
+      let all : List Row = map option_row before ++ flag_row name ∷ map option_row behind in
+      let whole : rows ++ map option_row behind ≡ all = append_assoc (map option_row before) (flag_row name ∷ []) (map option_row behind) in
+      options_read table before behind [] None [] ((codes "--" ++ name) ∷ flat_map written behind) ([], all) t.again (λ option among. (t.options option among, refl)) refl refl once (each_of before behind texts).0
+      (λ left held pending within none is once'.
+      flag_next held pending (map option_row before) name (flat_map written behind) t.flag t.again none is (before_has_none before behind once)
+      ∙ ap (read_from (after_option rows None)) (sym (append-nil (flat_map written behind)))
+      ∙ options_read left behind [] rows None rows [] ([], all) t.again
+      (λ option among.
+      let inside = within option among in
+      (t.options option inside.0, has_row_added option (map option_row before) (flag_row name) inside.1 (t.others option inside.0).1)) refl refl
+      (rw append-nil once') (each_of before behind texts).1
+      (λ left' held' pending' within' none' is' once''.
+      let given = t.given all (has_row_there name (map option_row before) (flag_row name) (map option_row behind) ((bytes_eq-Decides name name).1 refl)) in
+      ends_with (after_option held' pending') all all t.again refl none' (is' ∙ whole) given.0 given.1 (t.check all)))
+    where
+      before_has_none : (before behind : List Given) → is_each_once table (before ++ behind) ≡ true → has_row name (map option_row before) ≡ false
+      before_has_none before behind once = no_row name before (none_is name table before (λ option among. (t.others option among).0) (once_of table before behind once))
+
+  -- and without it, where it has its default
+  pub no_flag_taken : (table : List Text) (name : Text) (options : List Given) → TakesFlag app.top table name → is_each_once table options ≡ true
+      → list_all (λ (o : Given). is_plain_text o.value) options ≡ true
+      → read_from (walk_from nothing_held) (flat_map written options) ≡ ([], map option_row options ++ no_flag_row name ∷ [])
+  no_flag_taken table name options t once texts =
+      let left_out = t.left_out (map option_row options) (no_row name options (none_is name table options (λ option among. (t.others option among).0) once)) in
+      ap (read_from (walk_from nothing_held)) (sym (append-nil (flat_map written options)))
+      ∙ options_read table options [] [] None [] [] ([], map option_row options ++ no_flag_row name ∷ []) t.again (λ option among. (t.options option among, refl)) refl refl (rw append-nil once) texts
+      (λ left held pending within none is once'.
+      ends_with (after_option held pending) (map option_row options) (map option_row options ++ no_flag_row name ∷ []) t.again refl none is left_out.0 left_out.1 (t.check (map option_row options ++ no_flag_row name ∷ [])))
 
 -- ---- what is read of the rows
 
--- the value of an option
-pub value_in_rows : (name : Text) (options : List Given) (ds : List Text) → bytes_eq (codes "door") name ≡ false
-    → first_of name (map option_row options ++ door_rows ds) ≡ value_given name options
-value_in_rows name [] [] other = refl
-value_in_rows name [] (d ∷ ds) other = rw other refl
-value_in_rows name (o ∷ options) ds other = go (bytes_eq o.name name) (value_in_rows name options ds other)
+-- the value of an option, where other rows are behind those of these options
+pub value_among : (name : Text) (options others : List Given) (rows : List Row) → first_of name rows ≡ value_given name others
+    → first_of name (map option_row options ++ rows) ≡ value_given name (options ++ others)
+value_among name [] others rows behind = behind
+value_among name (o ∷ options) others rows behind = go (bytes_eq o.name name) (value_among name options others rows behind)
   where
-    go : (b : Bool) → first_of name (map option_row options ++ door_rows ds) ≡ value_given name options
-        → option_and_then (λ (r : Row). slice_get r.values 0) (cond b (Some (option_row o)) (find (λ (r : Row). bytes_eq r.id name) (map option_row options ++ door_rows ds)))
-        ≡ option_map (λ (g : Given). g.value) (cond b (Some o) (find (λ (g : Given). bytes_eq g.name name) options))
+    go : (b : Bool) → first_of name (map option_row options ++ rows) ≡ value_given name (options ++ others)
+        → option_and_then (λ (r : Row). slice_get r.values 0) (cond b (Some (option_row o)) (find (λ (r : Row). bytes_eq r.id name) (map option_row options ++ rows)))
+        ≡ option_map (λ (g : Given). g.value) (cond b (Some o) (find (λ (g : Given). bytes_eq g.name name) (options ++ others)))
     go true e = refl
     go false e = e
+
+-- where only DOORs are behind them
+pub value_in_rows : (name : Text) (options : List Given) (ds : List Text) → bytes_eq (codes "door") name ≡ false
+    → first_of name (map option_row options ++ door_rows ds) ≡ value_given name options
+value_in_rows name options ds other = value_among name options [] (door_rows ds) (no_door ds) ∙ ap (value_given name) (append-nil options)
+  where
+    no_door : (ds : List Text) → first_of name (door_rows ds) ≡ None
+    no_door [] = refl
+    no_door (d ∷ ds) = rw other refl
+
+-- the value of a row that is there, behind others
+pub value_there : (id : Text) (front : List Row) (r : Row) (rows : List Row) → has_row id front ≡ false → bytes_eq r.id id ≡ true → first_of id (front ++ r ∷ rows) ≡ slice_get r.values 0
+value_there id [] r rows none same = rw same refl
+value_there id (x ∷ front) r rows none same =
+    let parts = neither (bytes_eq x.id id) (has_row id front) none in
+    rw parts.0 (value_there id front r rows parts.1 same)
 
 -- the DOORs
 pub doors_in_rows : (options : List Given) (ds : List Text) → list_all (λ (o : Given). not (bytes_eq o.name (codes "door"))) options ≡ true
@@ -322,12 +461,3 @@ doors_in_rows [] (d ∷ ds) others = refl
 doors_in_rows (o ∷ options) ds others =
     let parts = both (not (bytes_eq o.name (codes "door"))) _ others in
     rw (is_false _ parts.0) (doors_in_rows options ds parts.1)
-
--- no option of a table without that name is called `door`
-pub none_is_door : (table : List Text) (options : List Given) → ((name : Text) → is_among table name ≡ true → bytes_eq name (codes "door") ≡ false)
-    → is_each_once table options ≡ true → list_all (λ (o : Given). not (bytes_eq o.name (codes "door"))) options ≡ true
-none_is_door table [] others once = refl
-none_is_door table (o ∷ options) others once =
-    let parts = both (is_among table o.name) _ once in
-    rw (others o.name parts.0) (none_is_door (filter (λ n. not (bytes_eq o.name n)) table) options
-    (λ name among. others name (still_among o.name table name among).0) parts.1)

@@ -1,8 +1,8 @@
--- Plain words: a command, then options of its table, each at most once, and then DOORs.
+-- Plain words: a command, then options of its table, each at most once and a flag by its name alone, and then DOORs where it takes them.
 use Rattle.std.specs.Prelude.{◌≡◌, ℕ, List, [], ◌∷◌, ◌++◌, Bool, true, false, not, ◌&&◌, ◌==◌, codes, bytes_eq, if◌then◌else◌, Option, Some, option_map, find, flat_map, filter}
 use Rattle.std.specs.List.{list_all, list_any}
 use Rattle.gw_text.specs.model.Chains.{◌>>=◌}
-use Rattle.gw_command.specs.Words.{StatusWords, ExplainWords, ReplayWords, ServeWords, status, explain, replay, serve, controller_by, doors_of, explain_by, replay_by, serve_by, command_of}
+use Rattle.gw_command.specs.Words.{StatusWords, ExplainWords, ReplayWords, GenerateWords, ServeWords, status, explain, replay, generate, serve, controller_by, doors_of, explain_by, replay_by, generate_by, serve_by, command_of}
 
 -- An option as it is given: in one word, `--name=value`, or in two, `--name value`.
 pub record Given : Type 0 where
@@ -76,6 +76,30 @@ replay_options = codes "controller" ∷ codes "workers" ∷ []
 abbrev pub plain_replay : Plain → Option ReplayWords
 plain_replay p = replay_by (value_given (codes "controller") p.options) (value_given (codes "workers") p.options) p.doors
 
+-- What stands in plain words of `generate`: its options with a value, and whether `--run` stands between them. It has no DOORs.
+pub record PlainGenerate : Type 0 where
+  pub before : List Given
+  pub runs : Bool
+  pub behind : List Given
+
+-- The words, after the command.
+abbrev pub plain_generate_words : PlainGenerate → List (List ℕ)
+plain_generate_words p = flat_map written p.before ++ (if p.runs then codes "--run" ∷ [] else []) ++ flat_map written p.behind
+
+-- What they are without `--run`.
+abbrev pub without_run : PlainGenerate → Plain
+without_run p = record { options = p.before ++ p.behind; doors = [] }
+
+-- The options of `generate` that have a value.
+abbrev pub generate_options : List (List ℕ)
+generate_options = codes "seed" ∷ codes "routes" ∷ codes "requests" ∷ []
+
+-- What plain words give `generate`.
+abbrev pub plain_generate : PlainGenerate → Option GenerateWords
+plain_generate p =
+    generate_by (value_given (codes "seed") (p.before ++ p.behind)) (value_given (codes "routes") (p.before ++ p.behind))
+    (value_given (codes "requests") (p.before ++ p.behind)) p.runs
+
 -- The options of `serve`.
 abbrev pub serve_options : List (List ℕ)
 serve_options = codes "controller" ∷ codes "workers" ∷ codes "conns" ∷ codes "admin" ∷ []
@@ -87,7 +111,7 @@ plain_serve p =
     (value_given (codes "admin") p.options) p.doors
 
 -- Plain words are read as they stand: an option's value is the one after its name, and what follows the options are
--- DOORs. So only a value can make them wrong, or that a request or an admin socket is wanting.
+-- DOORs. So only a value can make them wrong, or that a request, an admin socket, or a number of a script is wanting.
 pub record ReadsPlain (words : List (List ℕ)) : Type 0 where
   pub status : (p : Plain) → is_plain status_options p ≡ true → words ≡ codes "status" ∷ plain_words p
       → command_of words ≡ option_map status (plain_status p)
@@ -95,5 +119,7 @@ pub record ReadsPlain (words : List (List ℕ)) : Type 0 where
       → command_of words ≡ option_map explain (plain_explain p)
   pub replay : (p : Plain) → is_plain replay_options p ≡ true → words ≡ codes "replay" ∷ plain_words p
       → command_of words ≡ option_map replay (plain_replay p)
+  pub generate : (p : PlainGenerate) → is_plain generate_options (without_run p) ≡ true → words ≡ codes "generate" ∷ plain_generate_words p
+      → command_of words ≡ option_map generate (plain_generate p)
   pub serve : (p : Plain) → is_plain serve_options p ≡ true → words ≡ codes "serve" ∷ plain_words p
       → command_of words ≡ option_map serve (plain_serve p)

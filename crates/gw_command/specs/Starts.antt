@@ -1,20 +1,21 @@
 -- What the program is set to do by its words, and why it doesn't begin.
-use Rattle.std.specs.Prelude.{◌≡◌, ℕ, ◌*◌, ◌<◌, ◌≤◌, ⊤, List, length, Option, Some, None, option_map, Result, Ok, Err}
+use Rattle.std.specs.Prelude.{◌≡◌, ℕ, ◌*◌, ◌<◌, ◌≤◌, ⊤, List, [], length, Option, Some, None, option_map, Result, Ok, Err}
 use Rattle.gw_text.specs.model.Addresses.{Socket}
 use Rattle.gw_text.specs.model.Doors.{Door, DoorFault as DoorRule, too_many_doors, two_addresses, door_twice, door_fault}
 use Rattle.gw_frames.specs.model.Requests.{Request}
-use Rattle.gw_command.specs.Words.{Command, status, explain, replay, serve, most_workers, command_of}
+use Rattle.gw_command.specs.Words.{Command, GenerateWords, status, explain, replay, generate, serve, default_controller, most_workers, most_routes, most_requests, command_of}
 use Rattle.gw_requests.specs.Requests.{IsRequestOf}
 use Rattle.gw_command.specs.declared.fault.Fault.{Fault}
 use Rattle.gw_command.specs.declared.fault.Fault.TheVariants.{Usage, TooManyDoors, TwoAddresses, DoorTwice, NoMemory}
 
 -- What is written of the objects: their statuses, what becomes of a request at the door of this number, or what the
--- connections of a script are served by so many workers. Or connections are served: by so many workers at each door, by jobs that end
+-- connections of a script are served by so many workers. Or a script is written, or run. Or connections are served: by so many workers at each door, by jobs that end
 -- after so many accepts, where they do, with the admin endpoint at this socket.
 pub data Task : Type 0 where
   a_status : Task
   an_explanation : ℕ → Request → Task
   a_replay : ℕ → Task
+  a_generation : GenerateWords → Task
   a_service : ℕ → Option ℕ → Socket → Task
 
 -- The name of the controller whose classes are ours, the doors, and the task.
@@ -24,11 +25,12 @@ pub record Setting : Type 0 where
   pub task : Task
 
 -- The task's numbers are within their bounds: the door is there, and there is a worker, and no more than there may be,
--- of all doors together where they are served.
+-- of all doors together where they are served. A script has a Route, and no more Routes and requests than it may have.
 abbrev pub IsWithin : Task → List Door → Type 0
 IsWithin a_status doors = ⊤
 IsWithin (an_explanation at q) doors = at < length doors
 IsWithin (a_replay workers) doors = (0 < workers) × (workers ≤ most_workers)
+IsWithin (a_generation words) doors = (0 < words.routes) × (words.routes ≤ most_routes) × (words.requests ≤ most_requests)
 IsWithin (a_service workers conns admin) doors = (0 < workers) × (workers * length doors ≤ most_workers)
 
 -- Connections are served, and no input is read.
@@ -36,7 +38,16 @@ abbrev pub IsService : Task → Type 0
 IsService a_status = ⊥
 IsService (an_explanation at q) = ⊥
 IsService (a_replay workers) = ⊥
+IsService (a_generation words) = ⊥
 IsService (a_service workers conns admin) = ⊤
+
+-- A script is written, or run, and no input is read.
+abbrev pub IsGeneration : Task → Type 0
+IsGeneration a_status = ⊥
+IsGeneration (an_explanation at q) = ⊥
+IsGeneration (a_replay workers) = ⊥
+IsGeneration (a_generation words) = ⊤
+IsGeneration (a_service workers conns admin) = ⊥
 
 -- The fault of doors that break a rule.
 abbrev pub broken : DoorRule → Fault
@@ -54,7 +65,8 @@ abbrev pub with_task : List ℕ → List Door → Option Task → Result Setting
 with_task controller doors None = Err Usage
 with_task controller doors (Some task) = with_rule (door_fault doors) controller doors task
 
--- The start of a command, if the words are a command's. The bytes that `explain` is given must be one whole request.
+-- The start of a command, if the words are a command's. The bytes that `explain` is given must be one whole request. `generate` is given no
+-- controller and no doors.
 abbrev pub StartsBy : Option Command → Result Setting Fault → Type 0
 StartsBy None start = start ≡ Err Usage
 StartsBy (Some (status words)) start = start ≡ with_task words.controller words.doors (Some a_status)
@@ -62,6 +74,7 @@ StartsBy (Some (explain words)) start =
     (q : Option Request) × IsRequestOf words.request q
     × (start ≡ with_task words.controller words.doors (option_map (an_explanation words.at) q))
 StartsBy (Some (replay words)) start = start ≡ with_task words.controller words.doors (Some (a_replay words.workers))
+StartsBy (Some (generate words)) start = start ≡ with_task default_controller [] (Some (a_generation words))
 StartsBy (Some (serve words)) start = start ≡ with_task words.controller words.doors (Some (a_service words.workers words.conns words.admin))
 
 -- The start of the words that follow the program's name, which is one only: they must be a command's, and then the doors must break no rule.

@@ -1,10 +1,10 @@
 -- The commands and their words. Clap's own definitions say what it makes of the words of a command.
-use Rattle.std.specs.Prelude.{ℕ, ◌+◌, ◌*◌, Bool, nat_lt, not, List, [], ◌∷◌, ◌++◌, length, codes, bytes_eq, if◌then◌else◌, ◌==◌, Option, None, Some, option_map, unwrap_or}
+use Rattle.std.specs.Prelude.{ℕ, ◌+◌, ◌*◌, ◌^◌, Bool, false, nat_lt, not, List, [], ◌∷◌, ◌++◌, length, codes, bytes_eq, if◌then◌else◌, ◌==◌, Option, None, Some, option_map, unwrap_or}
 use Rattle.gw_text.specs.model.Chains.{◌>>=◌}
 use Rattle.gw_text.specs.model.Addresses.{Socket}
 use Rattle.gw_text.specs.model.Doors.{Door, door_of, loopback_of}
 use Rattle.clap.specs.Words.{Rule, Row, App, new_rule, new_app, with_rule, matches_of, fault_of, first_of, all_of}
-use Rattle.clap.specs.declared.builder.action.ArgAction.TheVariants.{Set, Append}
+use Rattle.clap.specs.declared.builder.action.ArgAction.TheVariants.{Set, Append, SetTrue}
 use Rattle.gw_requests.specs.Numbers.{number_below}
 use Rattle.gw_requests.specs.Quoted.{quoted_bytes}
 
@@ -35,11 +35,19 @@ pub record ServeWords : Type 0 where
   pub admin : Socket
   pub doors : List Door
 
+-- What `generate` is given: the seed of a script, of how many Routes and of how many requests it is, and whether it is run.
+pub record GenerateWords : Type 0 where
+  pub seed : ℕ
+  pub routes : ℕ
+  pub requests : ℕ
+  pub runs : Bool
+
 -- A command with what it is given.
 pub data Command : Type 0 where
   status : StatusWords → Command
   explain : ExplainWords → Command
   replay : ReplayWords → Command
+  generate : GenerateWords → Command
   serve : ServeWords → Command
 
 -- The controller whose GatewayClasses are this program's, where the words name no other.
@@ -49,6 +57,10 @@ default_controller = codes "gateward.example/controller"
 -- The option of this name, with one value.
 abbrev pub value_rule : List ℕ → Rule
 value_rule name = record (new_rule name) { long = Some name; action = Some Set }
+
+-- The flag of this name.
+abbrev pub flag_rule : List ℕ → Rule
+flag_rule name = record (new_rule name) { long = Some name; action = Some SetTrue }
 
 -- The DOORs: any number of them.
 abbrev pub door_rule : Rule
@@ -69,6 +81,12 @@ abbrev pub replay_app : App
 replay_app =
     with_rule (with_rule (with_rule (new_app (codes "replay")) (value_rule (codes "controller")))
     (value_rule (codes "workers"))) door_rule
+
+-- The words of `generate`: --seed N --routes N --requests N [--run]
+abbrev pub generate_app : App
+generate_app =
+    with_rule (with_rule (with_rule (with_rule (new_app (codes "generate")) (value_rule (codes "seed")))
+    (value_rule (codes "routes"))) (value_rule (codes "requests"))) (flag_rule (codes "run"))
 
 -- The options of `serve`: [--controller TEXT] [--workers N] [--conns N] --admin SOCKET
 abbrev pub serve_options_app : App
@@ -168,6 +186,49 @@ replay_of words = do
   rows ← found_in replay_app words
   replay_in rows
 
+-- The seed that is given; one must be.
+abbrev pub seed_by : Option (List ℕ) → Option ℕ
+seed_by given = given >>= number_below (2 ^ 64)
+
+-- The most Routes of a script.
+abbrev pub most_routes : ℕ
+most_routes = 4000
+
+-- The number of Routes that is given; one must be, and there is one Route at least.
+abbrev pub routes_by : Option (List ℕ) → Option ℕ
+routes_by given = given >>= number_below (most_routes + 1) >>= λ n. if n == 0 then None else Some n
+
+-- The most requests of a script.
+abbrev pub most_requests : ℕ
+most_requests = 100000
+
+-- The number of requests that is given; one must be.
+abbrev pub requests_by : Option (List ℕ) → Option ℕ
+requests_by given = given >>= number_below (most_requests + 1)
+
+-- A flag that is given has the value `true`.
+abbrev pub is_given : Option (List ℕ) → Bool
+is_given None = false
+is_given (Some value) = bytes_eq value (codes "true")
+
+-- What `generate` is given by the values of its options, and by whether its flag is given.
+unfoldable pub generate_by : Option (List ℕ) → Option (List ℕ) → Option (List ℕ) → Bool → Option GenerateWords
+generate_by seed routes requests runs = do
+  seed ← seed_by seed
+  routes ← routes_by routes
+  requests ← requests_by requests
+  Some (record { seed = seed; routes = routes; requests = requests; runs = runs })
+
+-- What `generate` is given by what clap found.
+abbrev pub generate_in : List Row → Option GenerateWords
+generate_in rows = generate_by (first_of (codes "seed") rows) (first_of (codes "routes") rows) (first_of (codes "requests") rows) (is_given (first_of (codes "run") rows))
+
+-- What `generate` is given by its words.
+unfoldable pub generate_of : List (List ℕ) → Option GenerateWords
+generate_of words = do
+  rows ← found_in generate_app words
+  generate_in rows
+
 -- The most accepts after which a job ends.
 abbrev pub most_conns : ℕ
 most_conns = 1000000
@@ -213,4 +274,5 @@ command_of (word ∷ words) =
     if bytes_eq word (codes "status") then option_map status (status_of (word ∷ words))
     else (if bytes_eq word (codes "explain") then option_map explain (explain_of (word ∷ words))
     else (if bytes_eq word (codes "replay") then option_map replay (replay_of (word ∷ words))
-    else (if bytes_eq word (codes "serve") then option_map serve (serve_of (word ∷ words)) else None)))
+    else (if bytes_eq word (codes "generate") then option_map generate (generate_of (word ∷ words))
+    else (if bytes_eq word (codes "serve") then option_map serve (serve_of (word ∷ words)) else None))))

@@ -10,6 +10,6 @@ pub use fault::{Ending, Fault};
 pub use setting::{Setting, start};
 pub use task::Task;
 pub use words::{
-    Command, DEFAULT_CONTROLLER, ExplainWords, ReplayWords, ServeWords, StatusWords, UsageFault,
-    read_words,
+    Command, DEFAULT_CONTROLLER, ExplainWords, GenerateWords, ReplayWords, ServeWords, StatusWords,
+    UsageFault, read_words,
 };

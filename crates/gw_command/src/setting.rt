@@ -1,13 +1,15 @@
-ghost use Rattle.std.specs.Prelude.{◌≡◌, ◌<◌, ◌⊎◌, Some, None, length, map, string_bytes, IfOk, IfErr, IfSome};
+ghost use Rattle.std.specs.Prelude.{◌≡◌, ◌<◌, ◌≤◌, ◌⊎◌, Some, None, length, map, string_bytes, IfOk, IfErr, IfSome};
 ghost use Rattle.gw_text.specs.model.Doors.{door_fault};
 ghost use Rattle.gw_command.specs.Faults.{IsExitAtStart, exit_code};
 ghost use Rattle.gw_command.specs.SeenTasks.{seen_task};
-ghost use Rattle.gw_command.specs.Starts.{IsService, a_service, IsSetting, IsStart, IsStartBy, IsWithin, with_rule};
+ghost use Rattle.gw_command.specs.Starts.{IsGeneration, IsService, a_generation, a_service, IsSetting, IsStart, IsStartBy, IsWithin, with_rule};
 ghost use Rattle.gw_command.specs.Words as commands;
 
 use crate::fault::Fault;
 use crate::task::Task;
-use crate::words::{Command, ExplainWords, StatusWords, UsageFault, read_words};
+use crate::words::{
+    Command, DEFAULT_CONTROLLER, ExplainWords, GenerateWords, StatusWords, UsageFault, read_words,
+};
 use gw_requests::whole_request;
 use gw_text::{Door, DoorFault, Doors, Socket, Text};
 use std::alloc::Global;
@@ -42,6 +44,22 @@ impl Setting {
             _ => None,
         }
     }
+
+    /// Where it is set to write or to run a script: of which it is.
+    pub fn generation(&self) -> Option<GenerateWords>
+        ensures some { IfSome result (λ words. self.now.task ≡ a_generation words) }
+        ensures none { result ≡ None → IsGeneration self.now.task → ⊥ }
+    {
+        match &self.task {
+            Task::Generate(words) => Some(GenerateWords {
+                seed: words.seed,
+                routes: words.routes,
+                requests: words.requests,
+                runs: words.runs,
+            }),
+            _ => None,
+        }
+    }
 }
 
 /// The setting of the words that follow the program's name.
@@ -60,6 +78,7 @@ pub fn start(alloc: Global, words: &[String]) -> Result<Setting, Fault>
             let task = Task::Replay(words.workers);
             with_doors(alloc, words.controller, words.doors, task)
         }
+        Ok(Command::Generate(words)) => generation(alloc, words),
         Ok(Command::Serve(words)) => {
             let task = Task::Serve(words.workers, words.conns, words.admin);
             with_doors(alloc, words.controller, words.doors, task)
@@ -82,6 +101,21 @@ fn explanation(alloc: Global, words: ExplainWords) -> Result<Setting, Fault>
             with_doors(alloc, words.controller, words.doors, task)
         }
         Ok(None) => Err(Fault::Usage),
+        Err(_) => Err(Fault::NoMemory),
+    }
+}
+
+// The setting of a script, which has a door of its own.
+fn generation(alloc: Global, words: GenerateWords) -> Result<Setting, Fault>
+    requires some { 0 < words.routes }
+    requires few { words.routes ≤ commands.most_routes }
+    requires requests { words.requests ≤ commands.most_requests }
+    ensures start { IsStartBy (Some (commands.generate words)) result }
+    ensures within { IfOk result (λ s. IsWithin s.task s.doors) }
+    ensures fault { IfErr result (λ fault. IsExitAtStart (exit_code fault) ⊎ (fault ≡ Fault.NoMemory)) }
+{
+    match Text::of(alloc, DEFAULT_CONTROLLER) {
+        Ok(controller) => with_doors(alloc, controller, Vec::new(alloc), Task::Generate(words)),
         Err(_) => Err(Fault::NoMemory),
     }
 }

@@ -1,3 +1,4 @@
+use crate::words::GenerateWords;
 use gw_frames::Request;
 use gw_text::Socket;
 
@@ -10,6 +11,8 @@ pub enum Task {
     Explanation(usize, Request),
     /// What a script's connections are served, by so many workers.
     Replay(usize),
+    /// A script is written, or run.
+    Generate(GenerateWords),
     /// The connections of all doors are served, by so many workers each, with jobs that end after so many accepts, or never; the objects
     /// come to the admin endpoint at this socket.
     Serve(usize, Option<u32>, Socket),

@@ -1,15 +1,16 @@
-ghost use Rattle.std.specs.Prelude.{◌≡◌, ◌*◌, ◌<◌, ◌≤◌, true, false, codes, length, IfOk, map, option_map, string_bytes};
+ghost use Rattle.std.specs.Prelude.{◌≡◌, ◌*◌, ◌^◌, ◌<◌, ◌≤◌, true, false, codes, length, IfOk, map, option_map, string_bytes};
 ghost use Rattle.clap.specs.Words.{app_of, rule_of, all_of, first_of, found_of, is_simple, rows_of};
 ghost use Rattle.clap.specs.Faults.{is_simple_and_free};
 ghost use Rattle.gw_command.specs.Readings.{IsWithin, Reads, seen};
 ghost use Rattle.gw_text.specs.model.Doors.{door_of, loopback_of};
+ghost use Rattle.gw_requests.specs.Numbers.{number_below};
 ghost use Rattle.gw_command.specs.Plain.{ReadsPlain};
 ghost use Rattle.gw_command.specs.Words as words_of;
 
 use clap::error::ErrorKind;
 use clap::{Arg, ArgAction, ArgMatches};
 use gw_requests::{number_below, quoted_bytes};
-use gw_text::{Door, Socket, Text, TextFault};
+use gw_text::{Door, Socket, Text, TextFault, is_decimal};
 use std::alloc::{AllocError, AllocFailed, Global};
 use std::marker::Model;
 
@@ -19,11 +20,17 @@ pub const DEFAULT_CONTROLLER: &str = "gateward.example/controller";
 // The most workers of a replay, and of all doors together that are served.
 const MOST_WORKERS: usize = 64;
 
+// The most Routes of a script.
+const MOST_ROUTES: usize = 4_000;
+
+// The most requests of a script.
+const MOST_REQUESTS: usize = 100_000;
+
 // The most accepts after which a job ends.
 const MOST_CONNS: usize = 1_000_000;
 
 /// Why words are not read.
-#[derive(Clone, Copy, Debug, PartialEq, Eq, Drop)]
+#[derive(Clone, Copy, Debug, PartialEq, Eq)]
 pub enum UsageFault {
     /// They name no command, or the command doesn't take them.
     Usage,
@@ -108,6 +115,27 @@ impl Model for ReplayWords {
     ghost view = { λ s. record { controller = s.controller; workers = s.workers; doors = s.doors.items } };
 }
 
+/// What `generate` is given: `--seed N --routes N --requests N [--run]`.
+#[derive(Drop)]
+pub struct GenerateWords {
+    /// The seed of a script.
+    pub seed: u64,
+    /// How many Routes the script has.
+    pub routes: u32,
+    /// How many requests it has.
+    pub requests: u32,
+    /// Whether it is run.
+    pub runs: bool,
+}
+
+impl Model for GenerateWords {
+    ghost use Rattle.gw_command.specs.Words.{GenerateWords as Plain};
+
+    ghost Value = { Plain };
+
+    ghost view = { λ s. record { seed = s.seed; routes = s.routes; requests = s.requests; runs = s.runs } };
+}
+
 /// What `serve` is given: `[--controller TEXT] [--workers N] [--conns N] --admin SOCKET [DOOR]...`.
 #[derive(Drop)]
 pub struct ServeWords {
@@ -140,6 +168,8 @@ pub enum Command {
     Explain(ExplainWords),
     /// Prints what the connections of a script are served, by the objects that its events put.
     Replay(ReplayWords),
+    /// Prints a script that is drawn, or runs it.
+    Generate(GenerateWords),
     /// Serves the connections of doors, by the objects that the admin endpoint is given.
     Serve(ServeWords),
 }
@@ -157,6 +187,9 @@ pub fn read_words(alloc: Global, words: &[String]) -> Result<Command, UsageFault
             alloc, words,
         )?)),
         [name, ..] if name.as_str() == "replay" => Ok(Command::Replay(read_replay(alloc, words)?)),
+        [name, ..] if name.as_str() == "generate" => {
+            Ok(Command::Generate(read_generate(alloc, words)?))
+        }
         [name, ..] if name.as_str() == "serve" => Ok(Command::Serve(read_serve(alloc, words)?)),
         _ => Err(UsageFault::Usage),
     }
@@ -187,6 +220,17 @@ fn read_replay(alloc: Global, words: &[String]) -> Result<ReplayWords, UsageFaul
 {
     let matches = matches_for(replay_command(alloc)?, words)?;
     replay_words(alloc, &matches)
+}
+
+#[tactic(auto, unfolding(crate::specs::Words::generate_of))]
+fn read_generate(alloc: Global, words: &[String]) -> Result<GenerateWords, UsageFault>
+    ensures value { Reads (λ s. s) (words_of.generate_of (map string_bytes words.now)) result }
+    ensures some { IfOk result (λ s. 0 < s.routes) }
+    ensures few { IfOk result (λ s. s.routes ≤ words_of.most_routes) }
+    ensures requests { IfOk result (λ s. s.requests ≤ words_of.most_requests) }
+{
+    let matches = matches_for(generate_command(alloc)?, words)?;
+    generate_words(&matches)
 }
 
 #[tactic(auto, unfolding(crate::specs::Words::serve_of))]
@@ -227,6 +271,16 @@ fn replay_command<'a>(alloc: Global) -> Result<clap::Command<'a>, AllocError>
         .arg(door(alloc))
 }
 
+fn generate_command<'a>(alloc: Global) -> Result<clap::Command<'a>, AllocError>
+    ensures { IfOk result (λ c. app_of c ≡ words_of.generate_app) }
+{
+    clap::Command::new(alloc, "generate")
+        .arg(value(alloc, "seed"))?
+        .arg(value(alloc, "routes"))?
+        .arg(value(alloc, "requests"))?
+        .arg(flag(alloc, "run"))
+}
+
 fn serve_command<'a>(alloc: Global) -> Result<clap::Command<'a>, AllocError>
     ensures { IfOk result (λ c. app_of c ≡ words_of.serve_app) }
 {
@@ -250,6 +304,13 @@ fn value<'a>(alloc: Global, name: &'a str) -> Arg<'a>
     ensures local { result.global ≡ false }
 {
     Arg::new(alloc, name).long(name).action(ArgAction::Set)
+}
+
+fn flag<'a>(alloc: Global, name: &'a str) -> Arg<'a>
+    ensures rule { rule_of result ≡ words_of.flag_rule name.entry.now }
+    ensures local { result.global ≡ false }
+{
+    Arg::new(alloc, name).long(name).action(ArgAction::SetTrue)
 }
 
 fn door<'a>(alloc: Global) -> Arg<'a>
@@ -320,6 +381,24 @@ fn replay_words(alloc: Global, matches: &ArgMatches<'_>) -> Result<ReplayWords, 
     })
 }
 
+#[tactic(auto, unfolding(crate::specs::Words::generate_by))]
+fn generate_words(matches: &ArgMatches<'_>) -> Result<GenerateWords, UsageFault>
+    ensures value { Reads (λ s. s) (words_of.generate_in (rows_of (found_of matches.now))) result }
+    ensures some { IfOk result (λ s. 0 < s.routes) }
+    ensures few { IfOk result (λ s. s.routes ≤ words_of.most_routes) }
+    ensures requests { IfOk result (λ s. s.requests ≤ words_of.most_requests) }
+{
+    let seed = seed(matches)?;
+    let routes = routes(matches)?;
+    let requests = requests(matches)?;
+    Ok(GenerateWords {
+        seed,
+        routes,
+        requests,
+        runs: is_given(matches, "run"),
+    })
+}
+
 #[tactic(auto, unfolding(crate::specs::Words::serve_by))]
 fn serve_words(alloc: Global, matches: &ArgMatches<'_>) -> Result<ServeWords, UsageFault>
     ensures value { Reads (λ s. s) (words_of.serve_in (rows_of (found_of matches.now))) result }
@@ -379,6 +458,64 @@ fn workers(matches: &ArgMatches<'_>) -> Result<usize, UsageFault>
     match number_below(MOST_WORKERS + 1, text) {
         Some(number) if number > 0 => Ok(number),
         _ => Err(UsageFault::Usage),
+    }
+}
+
+fn seed(matches: &ArgMatches<'_>) -> Result<u64, UsageFault>
+    ensures { Reads (λ n. n) (words_of.seed_by (first_of (codes "seed") (rows_of (found_of matches.now)))) result }
+{
+    match value_of(matches, "seed") {
+        Some(text) => read_seed(text),
+        None => Err(UsageFault::Usage),
+    }
+}
+
+#[tactic(auto, using(crate::proofs::Seeds::seed_parsed, crate::proofs::Seeds::no_digits))]
+fn read_seed(text: &str) -> Result<u64, UsageFault>
+    ensures { Reads (λ n. n) (number_below (2 ^ 64) text.now) result }
+{
+    if !is_decimal(text.as_bytes()) {
+        return Err(UsageFault::Usage);
+    }
+    match text.parse::<u64>() {
+        Ok(seed) => Ok(seed),
+        Err(_) => Err(UsageFault::Usage),
+    }
+}
+
+fn routes(matches: &ArgMatches<'_>) -> Result<u32, UsageFault>
+    ensures value { Reads (λ n. n) (words_of.routes_by (first_of (codes "routes") (rows_of (found_of matches.now)))) result }
+    ensures some { IfOk result (λ n. 0 < n) }
+    ensures few { IfOk result (λ n. n ≤ words_of.most_routes) }
+{
+    let Some(text) = value_of(matches, "routes") else {
+        return Err(UsageFault::Usage);
+    };
+    match number_below(MOST_ROUTES + 1, text) {
+        Some(number) if number > 0 => Ok(number as u32),
+        _ => Err(UsageFault::Usage),
+    }
+}
+
+fn requests(matches: &ArgMatches<'_>) -> Result<u32, UsageFault>
+    ensures value { Reads (λ n. n) (words_of.requests_by (first_of (codes "requests") (rows_of (found_of matches.now)))) result }
+    ensures few { IfOk result (λ n. n ≤ words_of.most_requests) }
+{
+    let Some(text) = value_of(matches, "requests") else {
+        return Err(UsageFault::Usage);
+    };
+    match number_below(MOST_REQUESTS + 1, text) {
+        Some(number) => Ok(number as u32),
+        None => Err(UsageFault::Usage),
+    }
+}
+
+fn is_given(matches: &ArgMatches<'_>, name: &str) -> bool
+    ensures { result ≡ words_of.is_given (first_of name.now (rows_of (found_of matches.now))) }
+{
+    match value_of(matches, name) {
+        Some(text) => text == "true",
+        None => false,
     }
 }
 

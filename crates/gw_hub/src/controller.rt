@@ -100,7 +100,10 @@ impl<R: Wait + Drop> Controller<R> {
     {
         match prepare::<Brand>(&mut self.core, line, at, Blank::new(1))? {
             Step::Ready(prepared) => {
-                append(self.alloc, &mut self.publisher, &prepared)?;
+                if let Err(fault) = append(self.alloc, &mut self.publisher, &prepared) {
+                    drop(prepared);
+                    return Err(Refusal::from(fault));
+                }
                 self.core.commit(prepared);
                 Ok(Outcome::Accepted)
             }
@@ -181,7 +184,7 @@ fn prepare<L: Ledger>(
     requires name { blank.name ≡ L.name }
     requires parts { blank.parts ≡ L.parts }
     requires positive { 0 < L.parts }
-    ensures same { core.new ≡ with_rooms core.old core.new.store.rooms }
+    ensures same { core.new ≡ with_rooms core.old core.new }
     ensures step { IfOk result (IsStep (answer core.old.store.world line.now) at core.new) }
     ensures refused { IfErr result (λ e. Fails e (answer core.old.store.world line.now)) }
 {

@@ -1,5 +1,10 @@
 -- What a core holds and evaluates, and a change that is prepared on it.
 use Rattle.std.specs.Prelude.{◌≡◌, ◌+◌, ◌<◌, ℕ, List, length, false}
+use Rattle.std.specs.List.Sorted.{IsStrictlySortedBy}
+use Rattle.gw_deps.specs.Edges.{name_order}
+use Rattle.gw_deps.specs.Indexes.{Index, IsIndexOf, Patch}
+use Rattle.gw_deps.specs.Touching.{AreTouched, Touched}
+use Rattle.gw_eval.specs.Kept.{KeptRoute, kept_routes_of}
 use Rattle.gw_match.specs.model.Telling.{Tables, tables_of}
 use Rattle.gw_store.specs.Stores.{Rooms, Store, least}
 use Rattle.gw_text.specs.model.Doors.{Door}
@@ -7,15 +12,26 @@ use Rattle.gw_text.specs.model.Objects.{Change}
 use Rattle.gw_text.specs.model.Statuses.{Statuses, statuses_of}
 use Rattle.gw_text.specs.model.World.{World, apply, is_full}
 
--- The objects, and for which doors and which controller they are evaluated.
+-- The objects, for which doors and which controller they are evaluated, and which of them depend on which.
 pub record Core : Type 0 where
   pub store : Store
   pub doors : List Door
   pub controller : List ℕ
+  pub index : Index
 
--- The core with other room for more.
-abbrev pub with_rooms : Core → Rooms → Core
-with_rooms c rooms = record c { store = record c.store { rooms = rooms } }
+-- The index with as much room for more as the other has.
+abbrev pub with_spares : Index → Index → Index
+with_spares i other = record {
+  by_class = record i.by_class { spare = other.by_class.spare };
+  by_gateway = record i.by_gateway { spare = other.by_gateway.spare };
+  by_namespace = record i.by_namespace { spare = other.by_namespace.spare };
+  by_service = record i.by_service { spare = other.by_service.spare };
+  by_grant = record i.by_grant { spare = other.by_grant.spare };
+}
+
+-- The core with as much room for more as the other has.
+abbrev pub with_rooms : Core → Core → Core
+with_rooms c other = record c { store = record c.store { rooms = other.store.rooms }; index = with_spares c.index other.index }
 
 -- A change that was prepared on a core.
 pub record Preparation : Type 0 where
@@ -35,12 +51,28 @@ pub record AreOf (statuses : Statuses) (tables : Tables) (doors : List Door) (co
   pub statuses_are : statuses ≡ statuses_of doors controller w
   pub tables_are : tables ≡ tables_at doors controller w
 
--- There is room for the change, and its statuses and tables are at hand.
-pub record IsPrepared (p : Preparation) (statuses : Statuses) (tables : Tables) : Type 0 where
+-- What is kept of the Routes of these objects.
+abbrev pub AreKept : List KeptRoute → List ℕ → World → Type 0
+AreKept kept controller w = kept ≡ kept_routes_of controller w
+
+-- All that is kept and evaluated is that of the objects, and the index is theirs.
+pub record IsCore (kept : List KeptRoute) (statuses : Statuses) (tables : Tables) (c : Core) : Type 0 where
+  pub kept_are : AreKept kept c.controller c.store.world
+  pub evaluated : AreOf statuses tables c.doors c.controller c.store.world
+  pub index_is : IsIndexOf c.store.world c.index
+
+-- There is room for the change, and all that is evaluated after it is at hand.
+pub record IsPrepared (p : Preparation) (kept : List KeptRoute) (statuses : Statuses) (tables : Tables) (patch : Patch) : Type 0 where
   pub room : 0 < least p.core.store.rooms
   pub fits : is_full p.core.store.world p.change.event ≡ false
+  pub kept_are : AreKept kept p.core.controller (world_with p)
   pub evaluated : AreOf statuses tables p.core.doors p.core.controller (world_with p)
+  pub patch_is : patch ≡ record { index = p.core.index; world = p.core.store.world; event = p.change.event }
 
--- A step for each Route and each Gateway of the objects.
-abbrev pub steps_of : World → ℕ
-steps_of w = length w.routes + length w.gateways
+-- So many Routes and Gateways depend on the object of the change, in the objects before it or in those after it, each counted once.
+pub record AreTouchedBy (w : World) (change : Change) (n : ℕ) : Type 0 where
+  pub touched : Touched
+  pub are : AreTouched w change.event change.at touched
+  pub routes_once : IsStrictlySortedBy name_order touched.routes
+  pub gateways_once : IsStrictlySortedBy name_order touched.gateways
+  pub count : n ≡ length touched.routes + length touched.gateways

@@ -2,9 +2,11 @@
 #![tactic(auto)]
 
 mod evaluation;
+mod kept;
 mod outcome;
 mod prepared;
 mod resolver;
+mod staying;
 
 pub use outcome::Outcome;
 pub use prepared::Prepared;

@@ -5,8 +5,10 @@ ghost use Rattle.gw_text.specs.model.World.{is_full};
 ghost use Rattle.gw_resolve.specs.Cores.{tables_at, world_with};
 
 use crate::resolver::Core;
+use gw_deps::IndexPatch;
+use gw_eval::KeptRoute;
 use gw_match::Tables;
-use gw_status::Statuses;
+use gw_status::{Shared, Statuses};
 use gw_store::{Entry, Event};
 use gw_text::{NoMemory, Second};
 use std::alloc::Global;
@@ -19,8 +21,10 @@ use std::sync::Arc;
 pub struct Prepared {
     pub(crate) event: Event,
     pub(crate) at: Second,
+    pub(crate) kept: Vec<Shared<KeptRoute>>,
     pub(crate) statuses: Statuses,
     pub(crate) tables: Arc<Tables>,
+    pub(crate) patch: IndexPatch,
     pub(crate) core: Snapshot<Core>,
 }
 
@@ -33,7 +37,7 @@ impl Model for Prepared {
 
     ghost view = { λ p. record { core = p.core.value; change = record { event = seen_event p.event; at = p.at } } };
 
-    ghost invariant = { λ p. IsPrepared (record { core = p.core.value; change = record { event = seen_event p.event; at = p.at } }) p.statuses (arc_value p.tables) };
+    ghost invariant = { λ p. IsPrepared (record { core = p.core.value; change = record { event = seen_event p.event; at = p.at } }) p.kept.items p.statuses (arc_value p.tables) p.patch };
 }
 
 impl Prepared {

@@ -5,15 +5,19 @@ ghost use Rattle.gw_store.specs.Events.{answer};
 ghost use Rattle.gw_store.specs.SeenEvents.{seen_event};
 ghost use Rattle.gw_text.specs.model.Statuses.{statuses_of};
 ghost use Rattle.gw_text.specs.model.World.{is_full, nothing};
-ghost use Rattle.gw_resolve.specs.Cores.{steps_of, tables_at, with_rooms, world_with};
-ghost use Rattle.gw_resolve.specs.Outcomes.{Comes, IsStep, steps_for};
+ghost use Rattle.gw_resolve.specs.Cores.{tables_at, with_rooms, world_with};
+ghost use Rattle.gw_resolve.specs.Outcomes.{Adds, Comes, IsStep, TakesSteps};
+ghost use Rattle.gw_resolve.specs.declared.resolver.Step.TheVariants.{Ready};
 
-use crate::evaluation::{Evaluation, evaluate, evaluate_uncounted};
+use crate::evaluation::{Evaluation, evaluate, evaluate_nothing};
 use crate::outcome::Outcome;
 use crate::prepared::Prepared;
+use crate::staying::others_stay;
+use gw_deps::{Index, touched};
+use gw_eval::KeptRoute;
 use gw_json::Refusal;
 use gw_match::Tables;
-use gw_status::Statuses;
+use gw_status::{Shared, Statuses};
 use gw_store::{Event, Read, World, read_event};
 use gw_text::{Doors, NoMemory, Second, Steps, Text};
 use std::alloc::Global;
@@ -22,12 +26,15 @@ use std::snapshot::Snapshot;
 use std::sync::Arc;
 use std::sync::ledger::{Blank, Ledger};
 
-/// The objects that are held, with their statuses and the tables of some doors under a controller's name.
+/// The objects that are held, with their statuses and the tables of some doors under a controller's name, and what is kept of them so
+/// that a change costs what it touches.
 pub struct Core {
     alloc: Global,
     doors: Arc<Doors>,
     controller: Arc<Text>,
     world: World,
+    index: Index,
+    kept: Vec<Shared<KeptRoute>>,
     statuses: Statuses,
     tables: Arc<Tables>,
 }
@@ -40,6 +47,8 @@ impl Drop for Core {
             doors: _,
             controller: _,
             world: _,
+            index: _,
+            kept: _,
             statuses: _,
             tables: _,
         } = self;
@@ -48,13 +57,13 @@ impl Drop for Core {
 
 impl Model for Core {
     ghost use Rattle.std.specs.Arc.{arc_value};
-    ghost use Rattle.gw_resolve.specs.Cores.{AreOf, Core as Plain};
+    ghost use Rattle.gw_resolve.specs.Cores.{Core as Plain, IsCore};
 
     ghost Value = { Plain };
 
-    ghost view = { λ c. record { store = c.world; doors = arc_value c.doors; controller = arc_value c.controller } };
+    ghost view = { λ c. record { store = c.world; doors = arc_value c.doors; controller = arc_value c.controller; index = c.index } };
 
-    ghost invariant = { λ c. AreOf c.statuses (arc_value c.tables) (arc_value c.doors) (arc_value c.controller) c.world.world };
+    ghost invariant = { λ c. IsCore c.kept.items c.statuses (arc_value c.tables) (record { store = c.world; doors = arc_value c.doors; controller = arc_value c.controller; index = c.index }) };
 }
 
 /// What a line is to do to a core.
@@ -76,25 +85,25 @@ impl Core {
         let doors = Arc::new(alloc, doors)?;
         let controller = Arc::new(alloc, controller)?;
         let world = World::new(alloc);
-        let Evaluation { statuses, tables } = evaluate_uncounted::<Brand>(
-            alloc,
-            &doors,
-            &controller,
-            &world,
-            Blank::new(1),
-        )?;
+        let Evaluation {
+            kept,
+            statuses,
+            tables,
+        } = evaluate_nothing::<Brand>(alloc, &doors, &controller, &world, Blank::new(1))?;
         Ok(Core {
             alloc,
             doors,
             controller,
             world,
+            index: Index::new(alloc),
+            kept,
             statuses,
             tables,
         })
     }
 
     /// Evaluates the change that a line of a watch says, which came at this moment, and leaves the core as it was, with room for the change.
-    /// The steps are those of evaluating all objects.
+    /// A step for each Route and each Gateway that the change touches.
     #[tactic(auto, unfolding(gw_store::specs::Events::answer))]
     pub fn prepare<L: Ledger>(
         &mut self,
@@ -102,10 +111,10 @@ impl Core {
         at: Second,
         steps: &mut Steps<L>,
     ) -> Result<Step, Refusal>
-        ensures same { self.new ≡ with_rooms self.old self.new.store.rooms }
+        ensures same { self.new ≡ with_rooms self.old self.new }
         ensures step { IfOk result (IsStep (answer self.old.store.world line.now) at self.new) }
         ensures refused { IfErr result (λ e. Fails e (answer self.old.store.world line.now)) }
-        ensures steps { IfOk result (λ step. steps.new ≡ steps.old + steps_for step) }
+        ensures steps { IfOk result (Adds steps.old steps.new) }
     {
         let Read::Change(event) = read_event(self.alloc, line)? else {
             return Ok(Step::Skipped);
@@ -123,10 +132,20 @@ impl Core {
         steps: &mut Steps<L>,
     ) -> Result<Prepared, NoMemory>
         requires { is_full self.old.store.world (seen_event event) ≡ false }
-        ensures same { self.new ≡ with_rooms self.old self.new.store.rooms }
+        ensures same { self.new ≡ with_rooms self.old self.new }
         ensures prepared { IfOk result (λ p. p ≡ record { core = self.new; change = record { event = seen_event event; at = at } }) }
-        ensures steps { IfOk result (λ p. steps.new ≡ steps.old + steps_of (world_with p)) }
+        ensures steps { IfOk result (λ p. Adds steps.old steps.new (Ready p)) }
     {
+        let touched = touched(self.alloc, &self.index, &self.world, &event)?;
+        others_stay(
+            &self.world,
+            &self.doors,
+            &self.controller,
+            self.kept.as_slice(),
+            self.statuses.gateways.as_slice(),
+            &event,
+            &touched,
+        );
         self.world.reserve()?;
         let trial = self.world.trial(event, at);
         let evaluation = evaluate(
@@ -134,15 +153,26 @@ impl Core {
             &self.doors,
             &self.controller,
             &self.world,
+            self.kept.as_slice(),
+            self.statuses.gateways.as_slice(),
+            &touched,
             steps,
         );
         let event = self.world.back(trial);
-        let Evaluation { statuses, tables } = evaluation?;
+        let evaluation = evaluation?;
+        let patch = self.index.prepare(self.alloc, &self.world, &event)?;
+        let Evaluation {
+            kept,
+            statuses,
+            tables,
+        } = evaluation;
         Ok(Prepared {
             event,
             at,
+            kept,
             statuses,
             tables,
+            patch,
             core: Snapshot::of(self),
         })
     }
@@ -157,11 +187,15 @@ impl Core {
         let Prepared {
             event,
             at,
+            kept,
             statuses,
             tables,
+            patch,
             core: _,
         } = p;
         self.world.put(event, at);
+        self.index.apply(patch);
+        self.kept = kept;
         self.statuses = statuses;
         self.tables = tables;
     }
@@ -178,7 +212,7 @@ impl Core {
         ensures same { OnErr result (self.new.store.world ≡ self.old.store.world) }
         ensures doors { self.new.doors ≡ self.old.doors }
         ensures controller { self.new.controller ≡ self.old.controller }
-        ensures steps { OnOk result (steps.new ≤ steps.old + steps_of self.new.store.world) }
+        ensures steps { IfOk result (λ outcome. TakesSteps (answer self.old.store.world line.now) at outcome self.old.store.world steps.old steps.new) }
     {
         match self.prepare(line, at, steps)? {
             Step::Ready(prepared) => {
