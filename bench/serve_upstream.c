@@ -1,4 +1,4 @@
-// The upstream of bench/serve and bench/clients: gives each connection at 127.0.0.1:PORT an answer of 13 bytes, and closes it.
+// The upstream of bench/serve, bench/clients, bench/hostile and bench/soak: gives each connection at 127.0.0.1:PORT an answer of 13 bytes, and closes it.
 // usage: serve_upstream PORT
 #include <arpa/inet.h>
 #include <pthread.h>
@@ -7,7 +7,7 @@
 #include <sys/socket.h>
 #include <unistd.h>
 
-enum { THREADS = 4, MOST = 16384 };
+enum { THREADS = 4, MOST = 65536 };
 
 static const char ANSWER[] = "HTTP/1.1 200 OK\r\ncontent-type: text/plain\r\ncontent-length: 13\r\n\r\nHello, world!";
 

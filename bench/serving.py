@@ -119,12 +119,16 @@ class Gateward:
         with open("/proc/%d/status" % self.process.pid) as file:
             return next(int(text.split()[1]) * 1024 for text in file if text.startswith("VmRSS:"))
 
+    def descriptors(self):
+        """How many descriptors it has open."""
+        return len(os.listdir("/proc/%d/fd" % self.process.pid))
+
 
 @contextlib.contextmanager
-def gateward(workers, descriptors=1024):
+def gateward(workers, descriptors=1024, options=()):
     """`serve` with one door, port 80 of the Gateway `default/g`, until the end. It has no objects yet, and may have so many descriptors."""
     admin, port = free_port(), free_port()
-    command = [PROGRAM, "serve", "--workers", str(workers), "--admin", "127.0.0.1:%d" % admin, "default/g:80=127.0.0.1:%d" % port]
+    command = [PROGRAM, "serve", *options, "--workers", str(workers), "--admin", "127.0.0.1:%d" % admin, "default/g:80=127.0.0.1:%d" % port]
     process = subprocess.Popen(["prlimit", "--nofile=%d" % descriptors] + command, stdin=subprocess.DEVNULL, stdout=subprocess.PIPE,
                                env=environment(command))
     try:

@@ -365,10 +365,10 @@ def written(text):
     return b"".join(plain.get(part) or (bytes([int(part[2:], 16)]) if part.startswith("\\x") else part.encode("latin-1")) for part in parts)
 
 
-def rows():
+def rows(path="rows"):
     """Of each row: the bytes that aren't cut, the others, whether it is one of five columns, and what it gives."""
     same = b""
-    for line in open("rows", encoding="latin-1"):
+    for line in open(path, encoding="latin-1"):
         line = line.rstrip("\n")
         if line.startswith("~ = "):
             same = written(line[4:])
