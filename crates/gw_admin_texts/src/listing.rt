@@ -69,7 +69,8 @@ fn push_table(
 ) -> Result<(), NoMemory>
     ensures { OnOk result (string_bytes text.new ≡ string_bytes text.old ++ listings.rows_text door table.now.rows) }
 {
-    'rows: for row in table.rows().rows() {
+    let rows = table.all_rows(alloc)?;
+    'rows: for row in rows.as_slice() {
         push_row(alloc, door, row, text)?;
     }
     Ok(())

@@ -1,10 +1,11 @@
+pub mod Changing
 pub mod Counting
 pub mod Deciding
 pub mod FirstCell
-pub mod Holding
-pub mod Making
+pub mod Held
+pub mod InOrder
 pub mod Names
+pub mod Permutations
 pub mod Places
 pub mod Probing
-pub mod Sorted
 pub mod Turns

@@ -1,7 +1,6 @@
 -- What is found first, name by name and place by place, is the row that serves the request.
-use Rattle.std.proofs.Common.{◌≡◌, ◌∙◌, refl, sym, ap, ℕ, zero, suc, ◌<◌, ◌≤◌, arith, Bool, true, false, ◌||◌, ◌&&◌, ◌==◌, List, [], ◌∷◌, filter, find, length, take, map, true≢false, Option, Some, None, bytes_eq, slice_get, length-take}
+use Rattle.std.proofs.Common.{◌≡◌, ◌∙◌, refl, sym, ap, ℕ, zero, suc, ◌<◌, ◌≤◌, arith, Bool, true, false, ◌||◌, ◌&&◌, ◌==◌, List, [], ◌∷◌, filter, length, take, map, true≢false, Option, bytes_eq, length-take}
 use Rattle.std.proofs.lemmas.Slice.Eq.{bytes_eq-Decides}
-use Rattle.std.proofs.lemmas.Cmp.{nat_eq_equiv}
 use Rattle.std.specs.Cmp.{first_so, second_so}
 use Rattle.std.specs.List.{AllByRecursion, list_any}
 use Rattle.std.specs.Option.{option_or}
@@ -19,10 +18,12 @@ use Rattle.gw_text.specs.model.Paths.{BeginsWithPrefix, without_slash}
 use Rattle.gw_cells.proofs.FirstCell.{AreInTurn, IsBefore, first_cell, in_some}
 use Rattle.gw_cells.proofs.Names.{above_shorter, above_within, host_fits, longer_before, name_probed, one_name}
 use Rattle.gw_cells.proofs.Deciding.{AreTied, by_exact, by_length}
+use Rattle.gw_cells.proofs.InOrder.{first_in_order}
 use Rattle.gw_cells.proofs.Places.{longer_value, path_match_fits, place_probed}
-use Rattle.gw_cells.specs.Cells.{IsCellOf, first_fit, fitting_row, found_by_name, found_by_place, keep_if, rows_at}
+use Rattle.gw_cells.specs.Cells.{first_fit, found_by_name, found_by_place}
 use Rattle.gw_cells.specs.model.Addresses.{DOT, Place, name_of, place_of, same_place, stands_at}
-use Rattle.gw_cells.specs.model.Choice.{first_found, fits_at}
+use Rattle.gw_cells.specs.model.Choice.{first_found}
+use Rattle.gw_cells.specs.model.Order.{IsCellOf}
 use Rattle.gw_cells.specs.model.Probes.{fronts, is_slash_at, names_above, names_for, places_for, prefix_place}
 
 -- Places that are looked at alike give the same.
@@ -45,36 +46,26 @@ filter_alike {T} test other alike (x ∷ items) = by (other x) refl (filter_alik
         let same : test x ≡ false = alike x ∙ e in
         rw (same, e) more
 
+-- What is kept of what was kept passes both tests.
+filter_twice : {T : Type 0} (test other : T → Bool) (items : List T) → filter test (filter other items) ≡ filter (λ x. other x && test x) items
+filter_twice test other [] = refl
+filter_twice {T} test other (x ∷ items) = by (other x) refl (test x) refl (filter_twice test other items)
+  where
+    by : (b : Bool) → other x ≡ b → (c : Bool) → test x ≡ c → filter test (filter other items) ≡ filter (λ y. other y && test y) items
+        → filter test (filter other (x ∷ items)) ≡ filter (λ y. other y && test y) (x ∷ items)
+    by true e true f more = rw (e, f) (ap (λ (rest : List T). x ∷ rest) more)
+    by true e false f more = rw (e, f) more
+    by false e c f more = rw e more
+
 -- What holds of every item holds of each.
 each_of : {T : Type 0} (P : T → Type 0) → ((x : T) → P x) → (items : List T) → AllByRecursion P items
 each_of P all [] = tt
 each_of P all (x ∷ items) = (all x, each_of P all items)
 
-reordered : (a b c d : Bool) → ((a && (b && c)) && d) ≡ (c && (b && (a && d)))
-reordered true true true d = refl
-reordered true true false d = refl
-reordered true false true d = refl
-reordered true false false d = refl
-reordered false true true d = refl
-reordered false true false d = refl
-reordered false false true d = refl
-reordered false false false d = refl
-
--- The first row of a cell that fits, in two words.
-first_fit_is : (rows : List Row) (q : Request) (numbers : List ℕ) → first_fit rows q numbers ≡ find (λ r. fits r q) (rows_at rows numbers)
-unfolding first_fit
-first_fit_is rows q [] = refl
-first_fit_is rows q (n ∷ numbers) = by (slice_get rows n) refl (first_fit_is rows q numbers)
-  where
-    by : (o : Option Row) → slice_get rows n ≡ o → first_found (fitting_row rows q) numbers ≡ find (λ r. fits r q) (rows_at rows numbers)
-        → first_found (fitting_row rows q) (n ∷ numbers) ≡ find (λ r. fits r q) (rows_at rows (n ∷ numbers))
-    by None is more = rw is more
-    by (Some r) is more = rw is (one (fits r q) refl)
-      where
-        one : (b : Bool) → fits r q ≡ b
-            → option_or (keep_if (λ x. fits x q) (Some r)) (first_found (fitting_row rows q) numbers) ≡ find (λ x. fits x q) (r ∷ rows_at rows numbers)
-        one true e = rw e refl
-        one false e = rw e more
+reordered : (a b c : Bool) → ((a && b) && c) ≡ (b && (a && c))
+reordered true b c = refl
+reordered false true c = refl
+reordered false false c = refl
 
 -- ---- paths
 
@@ -137,28 +128,28 @@ begins_of m path other fit = by m.sort refl
     by path_types.PathPrefix e = (prefix-bytes m.value path).0 (rw e at fit)
     by (path_types.Other name) e = absurd (true≢false (sym (rw e at fit)))
 
-module _ (listener : ℕ) (q : Request) where
-  fits_of : (x : Row) → fits_at listener q x ≡ true → fits x q ≡ true
-  fits_of x passes = second_so (x.listener == listener) (fits x q) passes
+module _ (q : Request) where
+  abbrev fits_this : Row → Bool
+  fits_this x = fits x q
 
   abbrev stands_under : List ℕ → Row → Bool
   stands_under name x = bytes_eq name (name_of x.hostname)
 
-  -- A row under this name that fits at the listener.
+  -- A row under this name that fits.
   abbrev fits_under : List ℕ → Row → Bool
-  fits_under name x = stands_under name x && fits_at listener q x
+  fits_under name x = stands_under name x && fits x q
 
   abbrev stands_in : Place → Row → Bool
   stands_in p x = same_place p (place_of x.test.path)
 
   module _ (name : List ℕ) where
     fits_so : (x : Row) → fits_under name x ≡ true → fits x q ≡ true
-    fits_so x passes = fits_of x (second_so (stands_under name x) (fits_at listener q x) passes)
+    fits_so x passes = second_so (stands_under name x) (fits x q) passes
 
     tied : (x y : Row) → fits_under name x ≡ true → fits_under name y ≡ true → AreTied x y
     tied x y px py =
-        let mine : name ≡ name_of x.hostname = (bytes_eq-Decides name (name_of x.hostname)).0 (first_so (stands_under name x) (fits_at listener q x) px) in
-        let theirs : name ≡ name_of y.hostname = (bytes_eq-Decides name (name_of y.hostname)).0 (first_so (stands_under name y) (fits_at listener q y) py) in
+        let mine : name ≡ name_of x.hostname = (bytes_eq-Decides name (name_of x.hostname)).0 (first_so (stands_under name x) (fits x q) px) in
+        let theirs : name ≡ name_of y.hostname = (bytes_eq-Decides name (name_of y.hostname)).0 (first_so (stands_under name y) (fits y q) py) in
         one_name x y q (fits_so x px) (fits_so y py) (sym mine ∙ theirs)
 
     begins : (x : Row) → fits_under name x ≡ true → is_exact_type x.test.path.sort ≡ false → BeginsWithPrefix x.test.path.value q.path
@@ -213,61 +204,60 @@ module _ (listener : ℕ) (q : Request) where
         (λ x px. place_probed x.test.path q.path (path_match_fits x q (fits_so x px))) rows)
         places_turn
 
-  names_turn : (host : List ℕ) → AreInTurn precedence is_total stands_under (fits_at listener q) (names_above host)
+  names_turn : (host : List ℕ) → AreInTurn precedence is_total stands_under fits_this (names_above host)
   names_turn [] = ((λ x y px py sx sy among. absurd (true≢false (sym among))), tt)
   names_turn (b ∷ host) = by (b == DOT) refl (names_turn host)
     where
-      by : (c : Bool) → (b == DOT) ≡ c → AreInTurn precedence is_total stands_under (fits_at listener q) (names_above host)
-          → AreInTurn precedence is_total stands_under (fits_at listener q) (names_above (b ∷ host))
+      by : (c : Bool) → (b == DOT) ≡ c → AreInTurn precedence is_total stands_under fits_this (names_above host)
+          → AreInTurn precedence is_total stands_under fits_this (names_above (b ∷ host))
       by true e more = rw e (first, more)
         where
-          first : IsBefore precedence is_total stands_under (fits_at listener q) (b ∷ host) (names_above host)
+          first : IsBefore precedence is_total stands_under fits_this (b ∷ host) (names_above host)
           first x y px py sx sy among =
               let mine : length (b ∷ host) ≡ length (name_of x.hostname) = ap length ((bytes_eq-Decides (b ∷ host) (name_of x.hostname)).0 sx) in
               let theirs : length (name_of y.hostname) ≤ length host = above_within host (name_of y.hostname) among in
-              longer_before x y q (fits_of x px) (fits_of y py) (omega arith)
+              longer_before x y q px py (omega arith)
       by false e more = rw e more
 
-  host_turn : AreInTurn precedence is_total stands_under (fits_at listener q) (names_for q.host)
+  host_turn : AreInTurn precedence is_total stands_under fits_this (names_for q.host)
   host_turn = (first, names_turn q.host)
     where
-      first : IsBefore precedence is_total stands_under (fits_at listener q) q.host (names_above q.host)
+      first : IsBefore precedence is_total stands_under fits_this q.host (names_above q.host)
       first x y px py sx sy among =
           let mine : length q.host ≡ length (name_of x.hostname) = ap length ((bytes_eq-Decides q.host (name_of x.hostname)).0 sx) in
           let theirs : length (name_of y.hostname) < length q.host = above_shorter q.host (name_of y.hostname) among sy in
-          longer_before x y q (fits_of x px) (fits_of y py) (omega arith)
+          longer_before x y q px py (omega arith)
 
   -- The foremost of all that fit is found name by name.
   by_name : (rows : List Row) → first_found (λ name. foremost precedence (filter (fits_under name) rows)) (names_for q.host)
-      ≡ foremost precedence (filter (fits_at listener q) rows)
-  by_name rows = first_cell precedence is_total stands_under (fits_at listener q) (names_for q.host) rows
-      (each_of (λ x. fits_at listener q x ≡ true → in_some precedence is_total stands_under (names_for q.host) x ≡ true)
-      (λ x px. name_probed x.hostname q.host (host_fits x q (fits_of x px))) rows)
+      ≡ foremost precedence (filter fits_this rows)
+  by_name rows = first_cell precedence is_total stands_under fits_this (names_for q.host) rows
+      (each_of (λ x. fits x q ≡ true → in_some precedence is_total stands_under (names_for q.host) x ≡ true)
+      (λ x px. name_probed x.hostname q.host (host_fits x q px)) rows)
       host_turn
 
   -- The tests of a row at an address, in another order.
   tests_alike : (name : List ℕ) (p : Place) (x : Row)
-      → (stands_at (record { listener = listener; name = name; place = p }) x && fits x q) ≡ (stands_in p x && fits_under name x)
-  tests_alike name p x =
-      ap (λ (b : Bool). (b && (stands_under name x && stands_in p x)) && fits x q) (nat_eq_equiv.symm listener x.listener)
-      ∙ reordered (x.listener == listener) (stands_under name x) (stands_in p x) (fits x q)
+      → (stands_at (record { name = name; place = p }) x && fits x q) ≡ (stands_in p x && fits_under name x)
+  tests_alike name p x = reordered (stands_under name x) (stands_in p x) (fits x q)
 
   -- What is found first among cells of these rows is the row that serves the request.
-  pub found_is : (rows : List Row) (cell : List ℕ → Place → List ℕ)
-      → ((name : List ℕ) (p : Place) → IsCellOf rows (record { listener = listener; name = name; place = p }) (cell name p))
-      → found_by_name cell rows q ≡ foremost precedence (filter (fits_at listener q) rows)
-  unfolding found_by_name found_by_place
+  pub found_is : (rows : List Row) (cell : List ℕ → Place → List Row)
+      → ((name : List ℕ) (p : Place) → IsCellOf rows (record { name = name; place = p }) (cell name p))
+      → found_by_name cell q ≡ foremost precedence (filter (λ x. fits x q) rows)
+  unfolding found_by_name found_by_place first_fit
   found_is rows cell are =
-      found_alike (λ name. found_by_place (cell name) rows q) (λ name. foremost precedence (filter (fits_under name) rows)) one (names_for q.host) ∙ by_name rows
+      found_alike (λ name. found_by_place (cell name) q) (λ name. foremost precedence (filter (fits_under name) rows)) one (names_for q.host) ∙ by_name rows
     where
-      at_place : (name : List ℕ) (p : Place) → first_fit rows q (cell name p) ≡ foremost precedence (filter (λ x. stands_in p x && fits_under name x) rows)
+      at_place : (name : List ℕ) (p : Place) → first_fit q (cell name p) ≡ foremost precedence (filter (λ x. stands_in p x && fits_under name x) rows)
       at_place name p =
-          first_fit_is rows q (cell name p)
-          ∙ are name p (λ r. fits r q)
-          ∙ ap (foremost precedence) (filter_alike (λ x. stands_at (record { listener = listener; name = name; place = p }) x && fits x q)
-          (λ x. stands_in p x && fits_under name x) (tests_alike name p) rows)
+          let standing : Row → Bool = stands_at (record { name = name; place = p }) in
+          first_in_order precedence is_total fits_this (filter standing rows) (cell name p) (are name p).all (are name p).ordered
+          ∙ ap (foremost precedence)
+          (filter_twice fits_this standing rows
+          ∙ filter_alike (λ x. standing x && fits x q) (λ x. stands_in p x && fits_under name x) (tests_alike name p) rows)
 
-      one : (name : List ℕ) → found_by_place (cell name) rows q ≡ foremost precedence (filter (fits_under name) rows)
+      one : (name : List ℕ) → found_by_place (cell name) q ≡ foremost precedence (filter (fits_under name) rows)
       one name =
-          found_alike (λ p. first_fit rows q (cell name p)) (λ p. foremost precedence (filter (λ x. stands_in p x && fits_under name x) rows)) (at_place name) (places_for q.path)
+          found_alike (λ p. first_fit q (cell name p)) (λ p. foremost precedence (filter (λ x. stands_in p x && fits_under name x) rows)) (at_place name) (places_for q.path)
           ∙ by_place name rows

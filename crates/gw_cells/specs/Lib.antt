@@ -1,4 +1,4 @@
 pub mod Cells
-pub mod Compiled
-pub mod Placed
+pub mod Changes
+pub mod Held
 pub mod model

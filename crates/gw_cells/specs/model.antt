@@ -1,3 +1,4 @@
 pub mod Addresses
-pub mod Probes
 pub mod Choice
+pub mod Order
+pub mod Probes

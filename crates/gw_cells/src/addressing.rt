@@ -67,7 +67,6 @@ pub(crate) fn address_of(alloc: Global, row: &Row) -> Result<Address, NoMemory>
     let name = name_of(alloc, &row.hostname)?;
     let path = text_of(is_exact, row.test.path.value.bytes()).to_vec(alloc)?;
     Ok(Address {
-        listener: row.listener,
         name,
         is_exact,
         path,

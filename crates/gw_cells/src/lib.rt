@@ -1,4 +1,5 @@
-//! Rows in cells by listener, hostname and path, so that the one that serves a request is found by probing.
+//! The rows of one listener in cells by hostname and path, so that the one that serves a request is found by probing. Copies share
+//! the cells in which they don't differ, and rows are added and taken out one at a time.
 #![tactic(auto)]
 
 mod address;
@@ -6,9 +7,9 @@ mod addressing;
 mod cell;
 mod cells;
 mod find;
+mod laws;
 mod maps;
-mod order;
-mod placed;
-mod table;
+mod rows;
 
 pub use cells::Cells;
+pub use laws::order_is_free;

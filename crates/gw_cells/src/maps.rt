@@ -1,133 +1,83 @@
-//! The maps in which cells are looked up, and how a row's number is added to its cell.
-ghost use Rattle.std.specs.Prelude.{◌≡◌, ◌++◌, ℕ, Bool, false, List, ◌&&◌, Some, OnOk, bytes_eq, nat_eq, if◌then◌else◌};
-ghost use Rattle.gw_cells.specs.Cells.{added, at_address, at_name, at_place, in_cell, seen_address, value_at};
-ghost use Rattle.gw_cells.specs.model.Addresses as rules;
-ghost use Rattle.std.specs.HashMap.{get};
+//! The maps in which cells are looked up, and how a cell is put in place of another.
+ghost use Rattle.std.specs.Prelude.{◌≡◌, ℕ, Bool, List, ◌&&◌, IfOk, OnOk, bytes_eq, if◌then◌else◌};
+ghost use Rattle.gw_cells.specs.Cells.{at_name, at_place, in_cell};
+ghost use Rattle.gw_cells.specs.model.Addresses.{Place};
 
 use crate::address::Address;
 use crate::cell::Cell;
+use gw_shared::SharedMap;
 use gw_text::NoMemory;
 use std::alloc::Global;
-use std::collections::HashMap;
 
-/// The cells of one listener and hostname, by path.
-pub(crate) type Paths = HashMap<Vec<u8>, Cell>;
+/// The cells of one hostname, by path.
+pub(crate) type Paths = SharedMap<Cell>;
 
-/// Those of one listener, by the name of the hostname.
-pub(crate) type Names = HashMap<Vec<u8>, Paths>;
+/// Those of all hostnames, by name.
+pub(crate) type Names = SharedMap<Paths>;
 
-/// Those of all listeners, by number.
-pub(crate) type Listeners = HashMap<u32, Names>;
-
-// Takes out what a map has under these bytes.
-fn take<V: Drop>(map: &mut HashMap<Vec<u8>, V>, key: &[u8]) -> Option<V>
-    ensures value { result ≡ value_at map.old key.now }
-    ensures others { (other : List ℕ) → bytes_eq other key.now ≡ false → value_at map.new other ≡ value_at map.old other }
+// A copy of the cell of a path, or an empty one.
+fn cell_of(alloc: Global, paths: &Paths, path: &[u8]) -> Result<Cell, NoMemory>
+    ensures { IfOk result (λ cell. (is_exact : Bool) → in_cell cell is_exact ≡ at_place paths.now (record { is_exact = is_exact; path = path.now })) }
 {
-    map.remove(key)
-}
-
-// Puts a value under these bytes.
-fn put<V: Drop>(
-    alloc: Global,
-    map: &mut HashMap<Vec<u8>, V>,
-    key: &[u8],
-    value: V,
-) -> Result<(), NoMemory>
-    ensures { (other : List ℕ) → OnOk result (value_at map.new other ≡ (if bytes_eq other key.now then Some value else value_at map.old other)) }
-{
-    map.insert(key.to_vec(alloc)?, value)?;
-    Ok(())
-}
-
-fn add_to_cell(cell: &mut Cell, is_exact: bool, number: usize) -> Result<(), NoMemory>
-    ensures { (kind : Bool) → OnOk result (in_cell cell.new kind ≡ in_cell cell.old kind ++ added (rules.same_kind kind is_exact) number) }
-{
-    if is_exact {
-        cell.exact.push(number)?;
-    } else {
-        cell.prefix.push(number)?;
-    }
-    Ok(())
-}
-
-// The cell of a path, or a new one.
-fn take_cell(alloc: Global, paths: &mut Paths, path: &[u8]) -> Cell
-    ensures value { (kind : Bool) → in_cell result kind ≡ at_place paths.old (record { is_exact = kind; path = path.now }) }
-    ensures others { (other : List ℕ) → bytes_eq other path.now ≡ false → value_at paths.new other ≡ value_at paths.old other }
-{
-    match take(paths, path) {
-        Some(cell) => cell,
-        None => Cell {
-            exact: Vec::new(alloc),
-            prefix: Vec::new(alloc),
-        },
+    match paths.get(path) {
+        Some(cell) => cell.share(alloc),
+        None => Ok(Cell::new(alloc)),
     }
 }
 
-fn add_to_paths(
-    alloc: Global,
-    paths: &mut Paths,
-    address: &Address,
-    number: usize,
-) -> Result<(), NoMemory>
-    ensures { (p : rules.Place) → OnOk result (at_place paths.new p ≡ at_place paths.old p ++ added (rules.same_place p (seen_address address.now).place) number) }
+/// A copy of the cell of an address, or an empty one.
+pub(crate) fn cell_at(alloc: Global, names: &Names, address: &Address) -> Result<Cell, NoMemory>
+    ensures { IfOk result (λ cell. (is_exact : Bool) →
+        in_cell cell is_exact ≡ at_name names.now address.now.name.items (record { is_exact = is_exact; path = address.now.path.items })) }
 {
-    let path = address.path.as_slice();
-    let mut cell = take_cell(alloc, paths, path);
-    add_to_cell(&mut cell, address.is_exact, number)?;
-    put(alloc, paths, path, cell)
-}
-
-// The cells of a name, or none yet.
-fn take_paths(alloc: Global, names: &mut Names, name: &[u8]) -> Paths
-    ensures value { (p : rules.Place) → at_place result p ≡ at_name names.old name.now p }
-    ensures others { (other : List ℕ) → bytes_eq other name.now ≡ false → value_at names.new other ≡ value_at names.old other }
-{
-    match take(names, name) {
-        Some(paths) => paths,
-        None => HashMap::new(alloc),
+    match names.get(address.name.as_slice()) {
+        Some(paths) => cell_of(alloc, paths, address.path.as_slice()),
+        None => Ok(Cell::new(alloc)),
     }
 }
 
-fn add_to_names(
+// A copy of the cells of a name, or none.
+fn paths_of(alloc: Global, names: &Names, name: &[u8]) -> Result<Paths, NoMemory>
+    ensures { IfOk result (λ paths. (p : Place) → at_place paths p ≡ at_name names.now name.now p) }
+{
+    match names.get(name) {
+        Some(paths) => paths.share(alloc),
+        None => Ok(SharedMap::new(alloc)),
+    }
+}
+
+// An empty cell takes no place.
+fn put_cell(alloc: Global, paths: &mut Paths, path: &[u8], cell: Cell) -> Result<(), NoMemory>
+    ensures { OnOk result ((p : Place) → at_place paths.new p ≡ (if bytes_eq p.path path.now then in_cell cell p.is_exact else at_place paths.old p)) }
+{
+    if cell.is_empty() {
+        return paths.remove(alloc, path);
+    }
+    paths.put(alloc, path, cell)
+}
+
+// A name without cells takes no place.
+fn put_paths(alloc: Global, names: &mut Names, name: &[u8], paths: Paths) -> Result<(), NoMemory>
+    ensures { OnOk result ((other : List ℕ) (p : Place) → at_name names.new other p ≡ (if bytes_eq other name.now then at_place paths p else at_name names.old other p)) }
+{
+    if paths.is_empty() {
+        return names.remove(alloc, name);
+    }
+    names.put(alloc, name, paths)
+}
+
+/// Puts a cell at an address, in place of the one that is there.
+pub(crate) fn put_at(
     alloc: Global,
     names: &mut Names,
     address: &Address,
-    number: usize,
+    cell: Cell,
 ) -> Result<(), NoMemory>
-    ensures { (name : List ℕ) (p : rules.Place) → OnOk result (at_name names.new name p ≡ at_name names.old name p
-        ++ added (bytes_eq name (seen_address address.now).name && rules.same_place p (seen_address address.now).place) number) }
+    ensures { OnOk result ((name : List ℕ) (p : Place) → at_name names.new name p
+        ≡ (if bytes_eq name address.now.name.items && bytes_eq p.path address.now.path.items then in_cell cell p.is_exact else at_name names.old name p)) }
 {
     let name = address.name.as_slice();
-    let mut paths = take_paths(alloc, names, name);
-    add_to_paths(alloc, &mut paths, address, number)?;
-    put(alloc, names, name, paths)
-}
-
-// The cells of a listener, or none yet.
-fn take_names(alloc: Global, listeners: &mut Listeners, listener: u32) -> Names
-    ensures value { (name : List ℕ) (p : rules.Place) → at_name result name p ≡ at_address listeners.old (record { listener = listener; name = name; place = p }) }
-    ensures others { (other : ℕ) → nat_eq other listener ≡ false → get nat_eq listeners.new other ≡ get nat_eq listeners.old other }
-{
-    match listeners.remove(&listener) {
-        Some(names) => names,
-        None => HashMap::new(alloc),
-    }
-}
-
-/// Adds the number of a row to the cell of its address.
-pub(crate) fn add(
-    alloc: Global,
-    listeners: &mut Listeners,
-    address: &Address,
-    number: usize,
-) -> Result<(), NoMemory>
-    ensures { (a : rules.Address) → OnOk result (at_address listeners.new a ≡ at_address listeners.old a
-        ++ added (rules.same_address a (seen_address address.now)) number) }
-{
-    let mut names = take_names(alloc, listeners, address.listener);
-    add_to_names(alloc, &mut names, address, number)?;
-    listeners.insert(address.listener, names)?;
-    Ok(())
+    let mut paths = paths_of(alloc, names, name)?;
+    put_cell(alloc, &mut paths, address.path.as_slice(), cell)?;
+    put_paths(alloc, names, name, paths)
 }

@@ -1,9 +1,9 @@
 //! Which parameters a query has, at both ends of those that are cut and behind them.
-use crate::finding::{asked, matching, path, row};
+use crate::fixtures::{asked, plain_row};
 use gw_frames::Request;
 use gw_route::QueryParamMatch;
 use gw_rows::{Parameters, Row, Test, failed_test, failed_test_with, fits, fits_with};
-use gw_text::{Key, NoMemory, Text, ValueMatchType};
+use gw_text::{NoMemory, Text, ValueMatchType};
 use std::alloc::Global;
 use std::test::*;
 
@@ -81,11 +81,6 @@ fn push_match(row: &mut Row, alloc: Global, name: &str, value: &str) -> Result<(
     Ok(())
 }
 
-fn plain_row(alloc: Global) -> Result<Row, Fail> {
-    let test = matching(alloc, path(alloc, false, "/")?, None);
-    Ok(row(alloc, 0, None, Key::parse(alloc, "d/r")?, test)?)
-}
-
 fn expect(alloc: Global, row: &Row, request: &Request, wanted: bool, of: &str) -> Result<(), Fail> {
     let cut = Parameters::cut(&request.query);
     let failed = if wanted { None } else { Some(Test::Query) };
@@ -99,29 +94,45 @@ fn expect(alloc: Global, row: &Row, request: &Request, wanted: bool, of: &str) -
     Ok(())
 }
 
-#[test]
-fn finds_parameters(rt: HostRuntime) -> Result<(), Fail> {
-    let alloc = rt.alloc();
-    let request = asked(alloc, "x", target(alloc)?.as_str())?;
-    let mut all = plain_row(alloc)?;
+fn expect_each(alloc: Global, row: &mut Row, request: &Request) -> Result<(), Fail> {
     for (name, value, wanted) in ASKED {
-        let mut row = plain_row(alloc)?;
-        push_match(&mut row, alloc, name, value)?;
-        expect(alloc, &row, &request, *wanted, name)?;
+        row.test.query_params.clear();
+        push_match(row, alloc, name, value)?;
+        expect(alloc, row, request, *wanted, name)?;
+    }
+    Ok(())
+}
+
+fn push_all(row: &mut Row, alloc: Global) -> Result<(), NoMemory> {
+    for (name, value, wanted) in ASKED {
         if *wanted {
-            push_match(&mut all, alloc, name, value)?;
+            push_match(row, alloc, name, value)?;
         }
     }
-    push_match(&mut all, alloc, "near", "second")?;
-    expect(alloc, &all, &request, true, "all")
+    push_match(row, alloc, "near", "second")
+}
+
+fn expect_at(alloc: Global, row: &Row, target: &str, wanted: bool) -> Result<(), Fail> {
+    let request = asked(alloc, "x", target)?;
+    expect(alloc, row, &request, wanted, target)
+}
+
+// What is asked of many parameters: each alone, and then together what is there.
+fn expect_many(alloc: Global, row: &mut Row) -> Result<(), Fail> {
+    let request = asked(alloc, "x", target(alloc)?.as_str())?;
+    expect_each(alloc, row, &request)?;
+    row.test.query_params.clear();
+    push_all(row, alloc)?;
+    expect(alloc, row, &request, true, "all")
 }
 
 #[test]
-fn finds_none(rt: HostRuntime) -> Result<(), Fail> {
+fn finds_parameters(rt: HostRuntime) -> Result<(), Fail> {
     let alloc = rt.alloc();
     let mut row = plain_row(alloc)?;
-    expect(alloc, &row, &asked(alloc, "x", "/")?, true, "no match")?;
+    expect_at(alloc, &row, "/", true)?;
     push_match(&mut row, alloc, "", "")?;
-    expect(alloc, &row, &asked(alloc, "x", "/")?, false, "no query")?;
-    expect(alloc, &row, &asked(alloc, "x", "/?")?, true, "an empty one")
+    expect_at(alloc, &row, "/", false)?;
+    expect_at(alloc, &row, "/?", true)?;
+    expect_many(alloc, &mut row)
 }

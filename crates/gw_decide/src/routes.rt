@@ -9,6 +9,7 @@ use crate::why::Why;
 use gw_frames::Request;
 use gw_match::DoorTable;
 use gw_rows::{Parameters, Row, ServedListener, Test, failed_test_with};
+use gw_shared::Shared;
 use gw_text::NoMemory;
 use std::alloc::Global;
 
@@ -18,12 +19,13 @@ pub fn explain(alloc: Global, t: &DoorTable, request: &Request) -> Result<Explai
 {
     let listener = t.listener(&request.host);
     let best = row_at(t, request);
-    explain_rows(alloc, t.rows().rows(), listener, best, request)
+    let rows = t.all_rows(alloc)?;
+    explain_rows(alloc, rows.as_slice(), listener, best, request)
 }
 
 fn explain_rows(
     alloc: Global,
-    rows: &[Row],
+    rows: &[Shared<Row>],
     listener: Option<&ServedListener>,
     best: Option<&Row>,
     request: &Request,

@@ -37,7 +37,7 @@ rows_of_rules : (controller : List ℕ) (w : World) (door : Door) (l : ServedLis
 rows_of_rules controller w door l s h = flat_map-map (planned_rows l s h) (planned_rule w s.object.meta.key.namespace) (enumerate_from 0 s.object.rules)
 
 -- a Route that is evaluated has its rows at a listener
-rows_of_route : (controller : List ℕ) (w : World) (door : Door) (l : ServedListener) (s : Stored HttpRoute) →
+pub rows_of_route : (controller : List ℕ) (w : World) (door : Door) (l : ServedListener) (s : Stored HttpRoute) →
     candidate_rows l (candidate_of controller w door s)
     ≡ (if is_attached door.gateway l.number (entries_of controller w s.object) then route_rows w l s else [])
 rows_of_route controller w door l s =

@@ -70,11 +70,11 @@ abbrev pub rules_with : List Plan → List Rule → List PlannedRule
 rules_with plans rules = map (rule_with plans) (enumerate_from 0 rules)
 
 -- What is evaluated of a Route, out of what is kept of it.
-abbrev pub candidate_with : Door → KeptRoute → Stored HttpRoute → Candidate
-candidate_with door k s = record {
-  route = s;
+abbrev pub candidate_with : Door → KeptRoute → Candidate
+candidate_with door k = record {
+  route = k.route;
   places = flat_map (places_at door.gateway) k.attached;
-  rules = rules_with k.plans s.object.rules;
+  rules = rules_with k.plans k.route.object.rules;
 }
 
 -- The Routes that are attached to the Gateway.
@@ -94,3 +94,7 @@ abbrev pub candidate_rows : ServedListener → Candidate → List Row
 candidate_rows l c =
     if list_any (nat_eq l.number) c.places then flat_map (planned_hostname_rows l c) (hostnames_for l.hostname c.route.object.hostnames)
     else []
+
+-- The rows of a Route at a listener of the door, out of what is kept of it.
+abbrev pub kept_rows : Door → ServedListener → KeptRoute → List Row
+kept_rows door l k = candidate_rows l (candidate_with door k)

@@ -5,6 +5,7 @@ use Rattle.gw_text.specs.model.Names.{Key, same_key}
 use Rattle.gw_text.specs.model.Plans.{Plan, plans_of}
 use Rattle.gw_text.specs.model.Routes.{HttpRoute, parent_key}
 use Rattle.gw_text.specs.model.Statuses.{Entry, RouteStatus, entries_of, route_status_of}
+use Rattle.gw_text.specs.model.Stored.{Stored}
 use Rattle.gw_text.specs.model.World.{World, route_at}
 
 -- The listeners of a Gateway to which an entry attaches its Route.
@@ -16,27 +17,29 @@ pub record AttachedAt : Type 0 where
 abbrev pub attached_of : Entry → AttachedAt
 attached_of e = record { gateway = parent_key e.parent; listeners = e.attachment.listeners }
 
--- A Route: its status, where each entry attaches it, and what its rules do.
+-- A Route: itself, its status, where each entry attaches it, and what its rules do.
 pub record KeptRoute : Type 0 where
+  pub route : Stored HttpRoute
   pub status : RouteStatus
   pub attached : List AttachedAt
   pub plans : List Plan
 
 -- What is kept of a Route.
-abbrev pub kept_route_of : List ℕ → World → HttpRoute → KeptRoute
-kept_route_of controller w r = record {
-  status = route_status_of controller w r;
-  attached = map attached_of (entries_of controller w r);
-  plans = plans_of w r;
+abbrev pub kept_route_of : List ℕ → World → Stored HttpRoute → KeptRoute
+kept_route_of controller w s = record {
+  route = s;
+  status = route_status_of controller w s.object;
+  attached = map attached_of (entries_of controller w s.object);
+  plans = plans_of w s.object;
 }
 
 -- What is kept of the Route of this key, where it is held.
 abbrev pub kept_route_at : List ℕ → World → Key → Option KeptRoute
-kept_route_at controller w key = option_map (λ s. kept_route_of controller w s.object) (route_at w key)
+kept_route_at controller w key = option_map (kept_route_of controller w) (route_at w key)
 
 -- What is kept of all Routes, in key order.
 abbrev pub kept_routes_of : List ℕ → World → List KeptRoute
-kept_routes_of controller w = map (λ s. kept_route_of controller w s.object) w.routes
+kept_routes_of controller w = map (kept_route_of controller w) w.routes
 
 -- An entry attaches its Route to the listener at this place of the Gateway of this key.
 abbrev pub is_at : Key → ℕ → AttachedAt → Bool

@@ -7,7 +7,6 @@ ghost use Rattle.gw_text.specs.model.Plans.{plan_of};
 ghost use Rattle.gw_text.specs.model.World.{namespace_labels};
 ghost use Rattle.gw_eval.specs.Candidates as evaluated;
 ghost use Rattle.gw_eval.specs.Counting.{entries_in};
-ghost use Rattle.gw_eval.specs.Kept as keeps;
 
 use crate::entries::{Entry, entries_by};
 use crate::home::Home;
@@ -18,7 +17,6 @@ use crate::shared_plans::Plans;
 use gw_labels::Labels;
 use gw_route::{HttpRoute, ParentRef, Rule};
 use gw_rows::Plan;
-use gw_status::Shared;
 use gw_store::World;
 use gw_text::{Door, Key, NoMemory, Stored, Text};
 use std::alloc::Global;
@@ -205,44 +203,18 @@ fn kept_places(alloc: Global, gateway: &Key, kept: &KeptRoute) -> Result<Vec<usi
     Ok(places)
 }
 
-// Puts the Route, of which this is kept, to the others, where it is attached to some listener of the Gateway.
-fn push_kept_candidate<'w>(
+/// What is evaluated of a Route, out of what is kept of it.
+pub fn kept_candidate<'w>(
     alloc: Global,
     door: &Door,
-    kept: &KeptRoute,
-    all: &mut Vec<Candidate<'w>>,
-    route: &'w Stored<HttpRoute>,
-) -> Result<(), NoMemory>
-    requires { length kept.now.plans ≡ length route.now.object.rules }
-    ensures { OnOk result (all.new.items ≡ all.old.items ++ filter evaluated.has_places (evaluated.candidate_with door.now kept.now route.now ∷ [])) }
+    kept: &'w KeptRoute,
+) -> Result<Candidate<'w>, NoMemory>
+    requires { length kept.now.plans ≡ length kept.now.route.object.rules }
+    ensures { IfOk result (λ c. c ≡ evaluated.candidate_with door.now kept.now) }
 {
-    let places = kept_places(alloc, &door.gateway, kept)?;
-    if !places.is_empty() {
-        let rules = kept_rules(alloc, &kept.plans, route.rules.as_slice())?;
-        all.push(Candidate {
-            route,
-            places,
-            rules,
-        })?;
-    }
-    Ok(())
-}
-
-/// The Routes that are attached to the door's Gateway, in key order, out of what is kept of all for a controller of this name.
-#[tactic(auto, unfolding(crate::specs::Candidates::candidates_of))]
-pub fn kept_candidates<'w>(
-    alloc: Global,
-    _controller: &Text,
-    world: &'w World,
-    door: &Door,
-    kept: &[Shared<KeptRoute>],
-) -> Result<Vec<Candidate<'w>>, NoMemory>
-    requires { kept.now ≡ keeps.kept_routes_of _controller.now world.now.world }
-    ensures { IfOk result (λ all. all.items ≡ evaluated.candidates_of _controller.now world.now.world door.now) }
-{
-    let mut all = Vec::new(alloc);
-    'routes: for (place, route) in world.routes().iter().enumerate() {
-        push_kept_candidate(alloc, door, &kept[place], &mut all, route)?;
-    }
-    Ok(all)
+    Ok(Candidate {
+        route: &kept.route,
+        places: kept_places(alloc, &door.gateway, kept)?,
+        rules: kept_rules(alloc, &kept.plans, kept.route.rules.as_slice())?,
+    })
 }

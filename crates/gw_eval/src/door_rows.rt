@@ -1,21 +1,19 @@
 //! The rows of a door.
 ghost use Rattle.std.specs.Prelude.{◌≡◌, ◌<◌, ◌++◌, IfOk, OnOk, flat_map, get_or, length, option_copied};
 ghost use Rattle.gw_eval.specs.Candidates as evaluated;
-ghost use Rattle.gw_eval.specs.Kept as keeps;
 ghost use Rattle.gw_rows.specs.model.DoorRows as rows;
 ghost use Rattle.gw_text.specs.model.Doors.{Door as PlainDoor};
 ghost use Rattle.gw_text.specs.model.Stored.{creation};
 
 use crate::attached::contains;
-use crate::candidate::{Candidate, PlannedRule, candidates, kept_candidates};
+use crate::candidate::{Candidate, PlannedRule, candidates, kept_candidate};
 use crate::hostnames::{RouteHostname, hostnames_for};
 use crate::kept::KeptRoute;
-use crate::served::{copy_hostname, number, served};
+use crate::served::{copy_hostname, number, served_listeners};
 use gw_route::{HttpRoute, Match, copy_match};
 use gw_rows::{Row, Rows, ServedListener};
-use gw_status::Shared;
 use gw_store::World;
-use gw_text::{Doors, Host, NoMemory, Second, Stored, Text};
+use gw_text::{Door, Doors, Host, NoMemory, Second, Stored, Text};
 use std::alloc::Global;
 
 fn creation(route: &Stored<HttpRoute>) -> Second
@@ -170,28 +168,25 @@ pub fn eval_rows(
     ensures { IfOk result (λ found. (d : PlainDoor) → found ≡ rows.rows_of doors.now controller.now w.now.world (get_or doors.now door d)) }
 {
     let door = &doors.doors()[door];
-    let listeners = served(alloc, controller, doors, w, door)?;
+    let listeners = served_listeners(alloc, controller, doors, w, door)?;
     let candidates = candidates(alloc, controller, w, door)?;
     let rows = rows_at(alloc, listeners.as_slice(), candidates.as_slice())?;
     Ok(Rows::new(listeners, rows))
 }
 
-/// The same out of what is kept of all Routes: none is evaluated.
-pub fn eval_kept_rows(
+/// The rows of a Route at a served listener of the door's Gateway, by hostname, rule and match, out of what is kept of it: none where it
+/// isn't attached to that one.
+pub fn kept_rows(
     alloc: Global,
-    w: &World,
-    doors: &Doors,
-    controller: &Text,
-    kept: &[Shared<KeptRoute>],
-    door: usize,
-) -> Result<Rows, NoMemory>
-    requires door { door < length doors.now }
-    requires kept { kept.now ≡ keeps.kept_routes_of controller.now w.now.world }
-    ensures { IfOk result (λ found. (d : PlainDoor) → found ≡ rows.rows_of doors.now controller.now w.now.world (get_or doors.now door d)) }
+    door: &Door,
+    listener: &ServedListener,
+    kept: &KeptRoute,
+) -> Result<Vec<Row>, NoMemory>
+    requires { length kept.now.plans ≡ length kept.now.route.object.rules }
+    ensures { IfOk result (λ found. found.items ≡ evaluated.kept_rows door.now listener.now kept.now) }
 {
-    let door = &doors.doors()[door];
-    let listeners = served(alloc, controller, doors, w, door)?;
-    let candidates = kept_candidates(alloc, controller, w, door, kept)?;
-    let rows = rows_at(alloc, listeners.as_slice(), candidates.as_slice())?;
-    Ok(Rows::new(listeners, rows))
+    let candidate = kept_candidate(alloc, door, kept)?;
+    let mut rows = Vec::new(alloc);
+    push_route(alloc, &mut rows, listener, &candidate)?;
+    Ok(rows)
 }

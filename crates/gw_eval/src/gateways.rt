@@ -91,7 +91,7 @@ pub fn gateway_statuses<L: Ledger>(
     ensures statuses { IfOk result (λ all. all ≡ statuses.gateway_statuses_of doors.now controller.now world.now.world) }
     ensures steps { OnOk result (steps.new ≡ steps.old + length world.now.world.gateways) }
 {
-    let mut all = GatewayStatuses::new(alloc);
+    let mut all = Vec::new(alloc);
     'gateways: for (place, gateway) in world.gateways().iter().enumerate() {
         steps.tick();
         if is_managed(alloc, controller, world, gateway)? {
@@ -100,5 +100,5 @@ pub fn gateway_statuses<L: Ledger>(
             all.push(Shared::new(alloc, status)?)?;
         }
     }
-    Ok(all)
+    GatewayStatuses::from_vec(alloc, all)
 }

@@ -1,13 +1,11 @@
 //! What is kept of Routes from change to change, and what is evaluated out of it.
-ghost use Rattle.std.specs.Prelude.{◌≡◌, ◌+◌, ◌<◌, ◌++◌, ℕ, IfOk, OnOk, get_or, length, map, option_map};
-ghost use Rattle.std.specs.List.{count_by};
+ghost use Rattle.std.specs.Prelude.{◌≡◌, ◌+◌, ◌<◌, ◌++◌, ℕ, IfOk, IfSome, OnOk, get_or, length, map, option_map};
 ghost use Rattle.gw_text.specs.model.Statuses as statuses;
-ghost use Rattle.gw_text.specs.model.World.{route_at};
+ghost use Rattle.gw_text.specs.model.World.{gateway_at, route_at};
 ghost use Rattle.gw_eval.specs.Counting.{entries_in};
 ghost use Rattle.gw_eval.specs.Kept as keeps;
 ghost use Rattle.gw_eval.specs.Results.{gateway_status_at};
 
-use crate::attached::contains;
 use crate::entries::{Entry, entries, managed_position};
 use crate::gateways::gateway_status;
 use crate::plans::plans;
@@ -18,7 +16,7 @@ use gw_attach::Places;
 use gw_route::HttpRoute;
 use gw_status::{GatewayStatus, RouteStatus, Shared};
 use gw_store::World;
-use gw_text::{Doors, Key, List, NoMemory, Steps, Text};
+use gw_text::{Doors, Key, List, NoMemory, Steps, Stored, Text};
 use std::alloc::Global;
 use std::marker::Model;
 use std::sync::ledger::Ledger;
@@ -41,6 +39,7 @@ impl Model for AttachedAt {
 /// All that is kept of a Route.
 #[derive(Drop)]
 pub struct KeptRoute {
+    pub route: Stored<HttpRoute>,
     pub status: Shared<RouteStatus>,
     /// One for each entry.
     pub attached: List<AttachedAt>,
@@ -53,7 +52,7 @@ impl Model for KeptRoute {
 
     ghost Value = { Plain };
 
-    ghost view = { λ k. record { status = k.status; attached = k.attached; plans = k.plans } };
+    ghost view = { λ k. record { route = k.route; status = k.status; attached = k.attached; plans = k.plans } };
 }
 
 fn attached_at(alloc: Global, entry: &Entry<'_>) -> Result<AttachedAt, NoMemory>
@@ -80,13 +79,14 @@ fn kept_route(
     alloc: Global,
     controller: &Text,
     world: &World,
-    route: &HttpRoute,
+    route: &Stored<HttpRoute>,
 ) -> Result<KeptRoute, NoMemory>
     ensures { IfOk result (λ kept. kept ≡ keeps.kept_route_of controller.now world.now.world route.now) }
 {
     let entries = entries(alloc, controller, world, route)?;
     let entries = entries.as_slice();
     Ok(KeptRoute {
+        route: route.share()?,
         status: shared_status(alloc, controller, world, route, entries)?,
         attached: all_attached(alloc, entries)?,
         plans: plans(alloc, world, route)?,
@@ -113,59 +113,19 @@ pub fn eval_kept_route<L: Ledger>(
     Ok(Some(Shared::new(alloc, kept)?))
 }
 
-// Whether an entry attaches its Route to the listener at this place of the Gateway.
-fn is_at(at: &AttachedAt, gateway: &Key, place: usize) -> bool
-    ensures { result ≡ keeps.is_at gateway.now place at.now }
-{
-    *gateway == at.gateway && contains(at.listeners.as_slice(), place)
-}
-
-// Whether some entry attaches the Route to it.
-fn is_attached(route: &KeptRoute, gateway: &Key, place: usize) -> bool
-    ensures { result ≡ keeps.is_kept_at gateway.now place route.now }
-{
-    let attached = route.attached.as_slice();
-    attached.iter().any(|at| is_at(at, gateway, place))
-}
-
-// How many Routes are attached to it.
-fn attached(kept: &[Shared<KeptRoute>], gateway: &Key, place: usize) -> usize
-    ensures { result ≡ count_by (keeps.is_kept_at gateway.now place) kept.now }
-{
-    kept.iter()
-        .filter(|route| is_attached(route, gateway, place))
-        .count()
-}
-
-// How many are attached to each of so many listeners.
-fn all_numbers(
-    alloc: Global,
-    kept: &[Shared<KeptRoute>],
-    gateway: &Key,
-    count: usize,
-) -> Result<Vec<u64>, NoMemory>
-    ensures length { IfOk result (λ numbers. length numbers.items ≡ count) }
-    ensures numbers { IfOk result (λ numbers. (place : ℕ) → place < count → get_or numbers.items place 0 ≡ count_by (keeps.is_kept_at gateway.now place) kept.now) }
-{
-    let mut numbers = Vec::with_capacity(alloc, count)?;
-    'places: for place in 0..count {
-        numbers.push(attached(kept, gateway, place) as u64)?;
-    }
-    Ok(numbers)
-}
-
-/// The status of the Gateway of this key, for a controller of this name on a host with these doors, out of what is kept of all Routes:
-/// none where the Gateway isn't in the world, or isn't managed.
-pub fn eval_kept_gateway<L: Ledger>(
+/// The status of the Gateway of this key, for a controller of this name on a host with these doors, where so many Routes are attached to
+/// each of its listeners: none where the Gateway isn't in the world, or isn't managed. No Route is looked at.
+pub fn eval_counted_gateway<L: Ledger>(
     alloc: Global,
     w: &World,
     doors: &Doors,
     controller: &Text,
-    kept: &[Shared<KeptRoute>],
     key: &Key,
+    attached: &[u64],
     steps: &mut Steps<L>,
 ) -> Result<Option<GatewayStatus>, NoMemory>
-    requires { kept.now ≡ keeps.kept_routes_of controller.now w.now.world }
+    requires length { IfSome (gateway_at w.now.world key.now) (λ s. length attached.now ≡ length s.object.listeners) }
+    requires numbers { (place : ℕ) → place < length attached.now → get_or attached.now place 0 ≡ statuses.attached_at controller.now w.now.world key.now place }
     ensures status { IfOk result (λ status. status ≡ gateway_status_at doors.now controller.now w.now.world key.now) }
     ensures steps { steps.new ≡ steps.old + 1 }
 {
@@ -174,8 +134,6 @@ pub fn eval_kept_gateway<L: Ledger>(
         return Ok(None);
     };
     let gateway = &w.gateways()[place];
-    let numbers = all_numbers(alloc, kept, &gateway.meta.key, gateway.listeners.len())?;
-    let attached = numbers.as_slice();
     let status = gateway_status(alloc, controller, doors, w, gateway, attached)?;
     Ok(Some(status))
 }

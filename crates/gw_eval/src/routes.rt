@@ -122,5 +122,5 @@ pub fn route_statuses<L: Ledger>(
         let entries = counted_entries(alloc, controller, world, home.labels(), route, counts)?;
         all.push(shared_status(alloc, controller, world, route, entries.as_slice())?)?;
     }
-    Ok(RouteStatuses::from_vec(all))
+    Ok(RouteStatuses::from_vec(alloc, all)?)
 }

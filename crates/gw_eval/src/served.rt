@@ -106,7 +106,7 @@ fn served_by(
 
 /// The served listeners of a door.
 #[tactic(auto, unfolding(gw_rows::specs::model::DoorRows::served_at))]
-pub fn served(
+pub fn served_listeners(
     alloc: Global,
     controller: &Text,
     doors: &Doors,

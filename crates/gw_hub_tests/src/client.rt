@@ -70,8 +70,8 @@ impl<N: HubName, R: Wait + Drop> Client<N, R> {
 
     /// Each pass reads: the front, and how many rows the table of the door has.
     pub fn read(&mut self, alloc: Global) -> Result<(), Fail> {
-        let (front, rows) = read(&mut self.one)?;
-        let (other_front, other_rows) = read(&mut self.other)?;
+        let (front, rows) = read(alloc, &mut self.one)?;
+        let (other_front, other_rows) = read(alloc, &mut self.other)?;
         let text = format!(in alloc; "{front} {rows} {other_front} {other_rows};")?;
         self.log.push_str(text.as_str())?;
         Ok(())
@@ -126,12 +126,13 @@ pub fn contains(text: &[u8], part: &[u8]) -> bool
 }
 
 // A pass reads: the front, and how many rows the table of the first door has.
-fn read(pass: &mut Pass<Tables>) -> Result<(u64, usize), Fail>
+fn read(alloc: Global, pass: &mut Pass<Tables>) -> Result<(u64, usize), Fail>
     ensures { pass.new.book ≡ pass.old.book }
 {
     let view = pass.read()?;
     if view.value.doors() == 0 {
         return Err(Fail::from("there is a door"));
     }
-    Ok((view.front, view.value.table(0).rows().rows().len()))
+    let rows = view.value.table(0).all_rows(alloc)?;
+    Ok((view.front, rows.len()))
 }

@@ -1,2 +1,4 @@
 pub mod Choice
+pub mod Listed
+pub mod ListedOf
 pub mod Telling

@@ -1,17 +1,14 @@
-//! The foremost of listeners and of rows.
-ghost use Rattle.std.specs.Prelude.{◌≡◌, ◌+◌, ◌≤◌, filter, length, option_copied};
+//! The table of the listener that takes a request.
+ghost use Rattle.std.specs.Prelude.{◌≡◌, option_copied};
 ghost use Rattle.std.specs.Ordering.{is_lt};
-ghost use Rattle.gw_rows.specs.Kept.{kept};
-ghost use Rattle.gw_rows.specs.model.Fitting.{parameters_of};
-ghost use Rattle.gw_rows.specs.model.Precedence.{precedence};
-ghost use Rattle.gw_rows.specs.model.Rows.{foremost};
+ghost use Rattle.gw_match.specs.Nearest as nearest;
 ghost use Rattle.gw_match.specs.model.Choice as rules;
+ghost use Rattle.gw_rows.specs.Kept.{kept};
 
-use gw_frames::Request;
+use crate::listener_table::ListenerTable;
 use gw_host::{covers, specificity};
-use gw_rows::{Parameters, Row, ServedListener, better, fits_with};
-use gw_text::Steps;
-use std::sync::ledger::Ledger;
+use gw_rows::ServedListener;
+use gw_shared::Shared;
 
 fn takes_host(listener: &ServedListener, host: &[u8]) -> bool
     ensures { result ≡ rules.takes_host host.now listener.now }
@@ -44,80 +41,34 @@ fn is_more_specific(a: &ServedListener, b: &ServedListener) -> bool
         .is_lt()
 }
 
-// The listener, where it takes the host and no more specific one was found.
-fn nearer<'l>(
-    best: Option<&'l ServedListener>,
-    listener: &'l ServedListener,
+// The table, where its listener takes the host and no more specific one was found.
+fn nearer<'t>(
+    best: Option<&'t ListenerTable>,
+    table: &'t ListenerTable,
     host: &[u8],
-) -> Option<&'l ServedListener>
-    ensures { option_copied result ≡ kept rules.specificity (rules.takes_host host.now) (option_copied best.entry) listener.now }
+) -> Option<&'t ListenerTable>
+    ensures { option_copied result ≡ kept nearest.by_specificity (nearest.table_takes host.now) (option_copied best.entry) table.now }
 {
-    if !takes_host(listener, host) {
+    if !takes_host(table.listener(), host) {
         return best;
     }
     match best {
-        Some(best) if !is_more_specific(listener, best) => Some(best),
-        _ => Some(listener),
+        Some(best) if !is_more_specific(table.listener(), best.listener()) => Some(best),
+        _ => Some(table),
     }
 }
 
-/// The most specific listener that takes requests for this host.
-#[tactic(auto, unfolding(crate::specs::model::Choice::listener_at))]
-pub fn foremost_listener<'l>(
-    listeners: &'l [ServedListener],
+/// The table of the most specific listener that takes requests for this host.
+#[tactic(auto, unfolding(crate::specs::Nearest::table_at))]
+pub(crate) fn foremost_table<'t>(
+    tables: &'t [Shared<ListenerTable>],
     host: &[u8],
-) -> Option<&'l ServedListener>
-    ensures { option_copied result ≡ rules.listener_at listeners.now host.now }
+) -> Option<&'t ListenerTable>
+    ensures { option_copied result ≡ nearest.table_at tables.now host.now }
 {
     let mut best = None;
-    'listeners: for listener in listeners {
-        best = nearer(best, listener, host);
-    }
-    best
-}
-
-fn fits_at(listener: &ServedListener, row: &Row, request: &Request, parameters: &Parameters) -> bool
-    requires { parameters.now ≡ parameters_of request.now.query }
-    ensures { result ≡ rules.fits_at listener.now request.now row.now }
-{
-    row.listener == listener.number && fits_with(row, request, parameters)
-}
-
-// The row, where it is one of the listener, fits, and no better one was found.
-fn best_of<'r>(
-    best: Option<&'r Row>,
-    row: &'r Row,
-    listener: &ServedListener,
-    request: &Request,
-    parameters: &Parameters,
-) -> Option<&'r Row>
-    requires { parameters.now ≡ parameters_of request.now.query }
-    ensures { option_copied result ≡ kept precedence (rules.fits_at listener.now request.now) (option_copied best.entry) row.now }
-{
-    if !fits_at(listener, row, request, parameters) {
-        return best;
-    }
-    match best {
-        Some(best) if !better(row, best) => Some(best),
-        _ => Some(row),
-    }
-}
-
-/// Of the rows of a listener that fit, the one that precedence puts first. A step for each row.
-pub fn foremost_row<'r, L: Ledger>(
-    rows: &'r [Row],
-    listener: &ServedListener,
-    request: &Request,
-    steps: &mut Steps<L>,
-) -> Option<&'r Row>
-    ensures row { option_copied result ≡ foremost precedence (filter (rules.fits_at listener.now request.now) rows.now) }
-    ensures steps { steps.new ≡ steps.old + length rows.now }
-{
-    let parameters = Parameters::cut(&request.query);
-    let mut best = None;
-    'rows: for row in rows {
-        steps.tick();
-        best = best_of(best, row, listener, request, &parameters);
+    'tables: for table in tables {
+        best = nearer(best, table, host);
     }
     best
 }

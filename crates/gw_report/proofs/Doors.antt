@@ -10,3 +10,7 @@ pub at_door : (doors : List Door) (at : ℕ) (f : Door → List ℕ) (text : Lis
     → text ≡ option_map_or f (slice_get doors at) []
 at_door [] at f text lt is = absurd (omega arith)
 at_door (door ∷ doors) at f text lt is = is door ∙ sym (ap (λ found. option_map_or f found []) (slice_get-get_or (door ∷ doors) at door lt))
+
+-- a door, which one doesn't matter
+pub some_door : Door
+some_door = record { gateway = record { namespace = []; name = [] }; port = 0; at = record { a = 0; b = 0; c = 0; d = 0; port = 0 } }

@@ -9,7 +9,7 @@ use gw_decide::write_explain;
 use gw_eval::eval_rows;
 use gw_frames::Request;
 use gw_link::{Clock, MOST_INPUT};
-use gw_match::DoorTable;
+use gw_match::{DoorTable, rows_of_a_door_stand_listener_by_listener};
 use gw_store::World;
 use gw_text::{Doors, NoMemory, Text};
 use std::alloc::Global;
@@ -67,6 +67,9 @@ fn verdict_text(
     requires { door < length doors.now }
     ensures { IfOk result (λ text. text ≡ texts.explanation_text doors.now controller.now world.now.world world.now.world.changes door request.now) }
 {
+    // The Routes stand in key order, so the rows of the door are such as a table is made of.
+    let _routes = world.routes();
+    rows_of_a_door_stand_listener_by_listener();
     let rows = eval_rows(alloc, world, doors, controller, door)?;
     let table = DoorTable::compile(alloc, rows)?;
     write_explain(alloc, &table, request, world.changes())

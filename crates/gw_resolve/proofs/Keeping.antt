@@ -1,7 +1,7 @@
 -- What is kept of all Routes and Gateways of a world, by their keys.
-use Rattle.std.proofs.Common.{◌≡◌, ◌∙◌, ℕ, zero, suc, ◌<◌, Bool, true, false, List, [], ◌∷◌, Option, Some, None, option_map, length, map, refl, sym, ap, ap₂, subst, arith, get_or, inl, inr}
+use Rattle.std.proofs.Common.{◌≡◌, ◌∙◌, ℕ, Bool, true, false, List, [], ◌∷◌, Option, Some, None, IfSome, option_map, map, refl, sym, ap, ap₂, subst, inl, inr}
 use Rattle.std.specs.Prelude.{filter}
-use Rattle.std.specs.List.{AllByRecursion, filter_map, cons_option}
+use Rattle.std.specs.List.{AllByRecursion}
 use Rattle.std.specs.List.Sorted.{IsStrictlySortedBy}
 use Rattle.std.specs.declared.cmp.Ordering.TheVariants.{Less}
 use Rattle.gw_text.specs.model.Chains.{◌>>=◌}
@@ -11,31 +11,16 @@ use Rattle.gw_text.specs.model.Names.{Key, key_order, same_key}
 use Rattle.gw_text.specs.model.Routes.{HttpRoute}
 use Rattle.gw_text.specs.model.Statuses.{ClassStatus, GatewayStatus, RouteStatus, Statuses, class_statuses_of, gateway_status_of, gateway_statuses_of, is_managed, route_status_of, route_statuses_of, statuses_of, where_managed}
 use Rattle.gw_text.specs.model.Stored.{Stored, IsInKeyOrder, objects_of, stored_at, stored_key}
-use Rattle.gw_text.specs.model.World.{World, gateway_key, route_key}
+use Rattle.gw_text.specs.model.World.{World, gateway_at, gateway_key, route_key}
 use Rattle.gw_text.proofs.Keys.{higher_from_lower, other_from_higher}
 use Rattle.gw_store.proofs.Digests.{known}
 use Rattle.gw_deps.proofs.Replacing.{key_is}
 use Rattle.gw_eval.specs.Kept.{KeptRoute, kept_route_at, kept_route_of, kept_routes_of}
 use Rattle.gw_eval.specs.Results.{gateway_status_at}
-use Rattle.gw_untouched.proofs.Lists.{found_at}
-use Rattle.gw_resolve.specs.Kept.{IsInOrder, gateway_status_key, kept_at, kept_route_key}
-
--- what the keys of objects give is what the objects give
-by_objects : {T X : Type 0} (key : T → Key) (h : Key → Option X) (g : Stored T → Option X) (hs : List (Stored T)) →
-    ((i : ℕ) (d : Stored T) → i < length hs → h (key (get_or hs i d).object) ≡ g (get_or hs i d)) → filter_map (λ s. h (key s.object)) hs ≡ filter_map g hs
-by_objects key h g [] each = refl
-by_objects key h g (s ∷ hs) each = ap₂ cons_option (each 0 s (omega arith)) (by_objects key h g hs (λ i d within. each (suc i) d (omega arith)))
-
-always_some : {S X : Type 0} (f : S → X) (xs : List S) → filter_map (λ s. Some (f s)) xs ≡ map f xs
-always_some f [] = refl
-always_some f (x ∷ xs) = ap (λ t. f x ∷ t) (always_some f xs)
-
--- what there is under the keys of all Routes is kept of all Routes
-pub all_routes : (controller : List ℕ) (w : World) → IsInKeyOrder route_key w.routes → filter_map (λ s. kept_route_at controller w (route_key s.object)) w.routes ≡ kept_routes_of controller w
-all_routes controller w order =
-    by_objects route_key (kept_route_at controller w) (λ s. Some (kept_route_of controller w s.object)) w.routes
-    (λ i d within. ap (option_map (λ s. kept_route_of controller w s.object)) (found_at route_key w.routes i d order within))
-    ∙ always_some (λ s. kept_route_of controller w s.object) w.routes
+use Rattle.gw_kept.proofs.Alike.{alike_are_one}
+use Rattle.gw_kept.proofs.Holding.{found_key}
+use Rattle.gw_kept.specs.Held.{gateway_status_key, kept_route_key}
+use Rattle.gw_kept.specs.Places.{IsInOrder, kept_at}
 
 module _ (doors : List Door) (controller : List ℕ) (w : World) where
   abbrev status : Gateway → GatewayStatus
@@ -43,22 +28,6 @@ module _ (doors : List Door) (controller : List ℕ) (w : World) where
 
   abbrev statuses : List (Stored Gateway) → List GatewayStatus
   statuses gateways = map status (filter (is_managed controller w) (objects_of gateways))
-
-  managed_more : (s : Stored Gateway) (rest : List GatewayStatus) (gs : List Gateway) (b : Bool) → is_managed controller w s.object ≡ b → rest ≡ map status (filter (is_managed controller w) gs) →
-      cons_option (option_map status (where_managed controller w s)) rest ≡ map status (filter (is_managed controller w) (s.object ∷ gs))
-  managed_more s rest gs true is so = rw is (ap (λ t. status s.object ∷ t) so)
-  managed_more s rest gs false is so = rw is so
-
-  managed_alone : (gateways : List (Stored Gateway)) → filter_map (λ s. option_map status (where_managed controller w s)) gateways ≡ statuses gateways
-  managed_alone [] = refl
-  managed_alone (s ∷ gateways) = managed_more s _ (objects_of gateways) (is_managed controller w s.object) refl (managed_alone gateways)
-
-  -- what there is under the keys of all Gateways are the statuses of those that are managed
-  pub all_gateways : IsInKeyOrder gateway_key w.gateways → filter_map (λ s. gateway_status_at doors controller w (gateway_key s.object)) w.gateways ≡ gateway_statuses_of doors controller w
-  all_gateways order =
-      by_objects gateway_key (gateway_status_at doors controller w) (λ s. option_map status (where_managed controller w s)) w.gateways
-      (λ i d within. ap (λ found. option_map status (found >>= where_managed controller w)) (found_at gateway_key w.gateways i d order within))
-      ∙ managed_alone w.gateways
 
   status_key : (g : Gateway) → gateway_status_key (status g) ≡ gateway_key g
   unfolding gateway_status_of
@@ -119,9 +88,9 @@ kept_route f k (s ∷ xs) keys = elim (known (same_key (route_key s.object) k)) 
 
 -- what is kept under a key is that of its Route
 pub route_kept : (controller : List ℕ) (w : World) (kept : List KeptRoute) (k : Key) → kept ≡ kept_routes_of controller w → kept_at kept_route_key k kept ≡ kept_route_at controller w k
-route_kept controller w kept k are = ap (kept_at kept_route_key k) are ∙ kept_route (λ s. kept_route_of controller w s.object) k w.routes (λ s. refl)
+route_kept controller w kept k are = ap (kept_at kept_route_key k) are ∙ kept_route (kept_route_of controller w) k w.routes (λ s. refl)
 
-keys_kept : (controller : List ℕ) (w : World) (xs : List (Stored HttpRoute)) → map kept_route_key (map (λ s. kept_route_of controller w s.object) xs) ≡ map (stored_key route_key) xs
+keys_kept : (controller : List ℕ) (w : World) (xs : List (Stored HttpRoute)) → map kept_route_key (map (kept_route_of controller w) xs) ≡ map (stored_key route_key) xs
 keys_kept controller w [] = refl
 keys_kept controller w (s ∷ xs) = ap (λ t. route_key s.object ∷ t) (keys_kept controller w xs)
 
@@ -130,7 +99,7 @@ pub routes_ordered : (controller : List ℕ) (w : World) (kept : List KeptRoute)
 routes_ordered controller w kept are order =
     subst (λ keys. IsStrictlySortedBy key_order keys) (sym (ap (map kept_route_key) are ∙ keys_kept controller w w.routes)) order
 
-statuses_kept : (controller : List ℕ) (w : World) (xs : List (Stored HttpRoute)) → map (λ (k : KeptRoute). k.status) (map (λ s. kept_route_of controller w s.object) xs) ≡ map (route_status_of controller w) (objects_of xs)
+statuses_kept : (controller : List ℕ) (w : World) (xs : List (Stored HttpRoute)) → map (λ (k : KeptRoute). k.status) (map (kept_route_of controller w) xs) ≡ map (route_status_of controller w) (objects_of xs)
 statuses_kept controller w [] = refl
 statuses_kept controller w (s ∷ xs) = ap (λ t. route_status_of controller w s.object ∷ t) (statuses_kept controller w xs)
 
@@ -148,3 +117,32 @@ pub all_statuses : (doors : List Door) (controller : List ℕ) (w : World) (clas
 all_statuses doors controller w classes gateways routes first second third =
     ap (λ (c : List ClassStatus). those c gateways routes) first
     ∙ ap₂ (λ (g : List GatewayStatus) (r : List RouteStatus). those (class_statuses_of controller w) g r) second third
+
+-- the key of a status is the one under which it is kept
+pub status_under : (doors : List Door) (controller : List ℕ) (w : World) (key : Key) (o : Option GatewayStatus) → o ≡ gateway_status_at doors controller w key
+    → IfSome o (λ st. gateway_status_key st ≡ key)
+status_under doors controller w key o is = subst (λ o. IfSome o (λ st. gateway_status_key st ≡ key)) (sym is) (by (gateway_at w key) (found_key gateway_key key w.gateways))
+  where
+    of_managed : (s : Stored Gateway) (b : Bool) → is_managed controller w s.object ≡ b → gateway_key s.object ≡ key
+        → IfSome (option_map (gateway_status_of doors controller w) (where_managed controller w s)) (λ st. gateway_status_key st ≡ key)
+    of_managed s true managed here = rw managed (status_key doors controller w s.object ∙ here)
+    of_managed s false managed here = rw managed tt
+
+    by : (found : Option (Stored Gateway)) → IfSome found (λ s. gateway_key s.object ≡ key)
+        → IfSome (option_map (gateway_status_of doors controller w) (found >>= where_managed controller w)) (λ st. gateway_status_key st ≡ key)
+    by None here = tt
+    by (Some s) here = of_managed s (is_managed controller w s.object) refl here
+
+-- where each key is told what it is to be, the list is that of all Routes
+pub all_routes_told : (controller : List ℕ) (w : World) (kept : List KeptRoute) → IsInKeyOrder route_key w.routes → IsInOrder kept_route_key kept
+    → ((k : Key) → kept_at kept_route_key k kept ≡ kept_route_at controller w k) → kept ≡ kept_routes_of controller w
+all_routes_told controller w kept routes order told =
+    alike_are_one kept_route_key kept (kept_routes_of controller w) order (routes_ordered controller w (kept_routes_of controller w) refl routes)
+    (λ k. told k ∙ sym (route_kept controller w (kept_routes_of controller w) k refl))
+
+-- and so are the statuses of all Gateways
+pub all_gateways_told : (doors : List Door) (controller : List ℕ) (w : World) (all : List GatewayStatus) → IsInKeyOrder gateway_key w.gateways → IsInOrder gateway_status_key all
+    → ((k : Key) → kept_at gateway_status_key k all ≡ gateway_status_at doors controller w k) → all ≡ gateway_statuses_of doors controller w
+all_gateways_told doors controller w all gateways order told =
+    alike_are_one gateway_status_key all (gateway_statuses_of doors controller w) order (gateways_ordered doors controller w gateways)
+    (λ k. told k ∙ sym (gateway_kept doors controller w k gateways))

@@ -1,6 +1,5 @@
 pub mod Committing
-pub mod Doors
-pub mod Finding
 pub mod Keeping
-pub mod Merging
+pub mod Nothing
+pub mod Telling
 pub mod Untouched

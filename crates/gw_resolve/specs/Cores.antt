@@ -1,12 +1,13 @@
 -- What a core holds and evaluates, and a change that is prepared on it.
-use Rattle.std.specs.Prelude.{◌≡◌, ◌+◌, ◌<◌, ℕ, List, length, false}
+use Rattle.std.specs.Prelude.{◌≡◌, ◌+◌, ◌<◌, ℕ, List, length, map, false}
 use Rattle.std.specs.List.Sorted.{IsStrictlySortedBy}
 use Rattle.gw_deps.specs.Edges.{name_order}
 use Rattle.gw_deps.specs.Indexes.{Index, IsIndexOf, Patch}
 use Rattle.gw_deps.specs.Touching.{AreTouched, Touched}
-use Rattle.gw_eval.specs.Kept.{KeptRoute, kept_routes_of}
+use Rattle.gw_eval.specs.Kept.{kept_routes_of}
+use Rattle.gw_kept.specs.Held.{Held, served_door}
 use Rattle.gw_match.specs.model.Telling.{Tables, tables_of}
-use Rattle.gw_store.specs.Stores.{Rooms, Store, least}
+use Rattle.gw_store.specs.Stores.{Store, least}
 use Rattle.gw_text.specs.model.Doors.{Door}
 use Rattle.gw_text.specs.model.Objects.{Change}
 use Rattle.gw_text.specs.model.Statuses.{Statuses, statuses_of}
@@ -51,21 +52,25 @@ pub record AreOf (statuses : Statuses) (tables : Tables) (doors : List Door) (co
   pub statuses_are : statuses ≡ statuses_of doors controller w
   pub tables_are : tables ≡ tables_at doors controller w
 
--- What is kept of the Routes of these objects.
-abbrev pub AreKept : List KeptRoute → List ℕ → World → Type 0
-AreKept kept controller w = kept ≡ kept_routes_of controller w
+-- What is kept of all Routes of these objects, and which listeners are served at the doors.
+abbrev pub held_of : List Door → List ℕ → World → Held
+held_of doors controller w = record { controller = controller; kept = kept_routes_of controller w; doors = map (served_door doors controller w) doors }
+
+-- It is that of these objects.
+abbrev pub AreKept : Held → List Door → List ℕ → World → Type 0
+AreKept kept doors controller w = kept ≡ held_of doors controller w
 
 -- All that is kept and evaluated is that of the objects, and the index is theirs.
-pub record IsCore (kept : List KeptRoute) (statuses : Statuses) (tables : Tables) (c : Core) : Type 0 where
-  pub kept_are : AreKept kept c.controller c.store.world
+pub record IsCore (kept : Held) (statuses : Statuses) (tables : Tables) (c : Core) : Type 0 where
+  pub kept_are : AreKept kept c.doors c.controller c.store.world
   pub evaluated : AreOf statuses tables c.doors c.controller c.store.world
   pub index_is : IsIndexOf c.store.world c.index
 
 -- There is room for the change, and all that is evaluated after it is at hand.
-pub record IsPrepared (p : Preparation) (kept : List KeptRoute) (statuses : Statuses) (tables : Tables) (patch : Patch) : Type 0 where
+pub record IsPrepared (p : Preparation) (kept : Held) (statuses : Statuses) (tables : Tables) (patch : Patch) : Type 0 where
   pub room : 0 < least p.core.store.rooms
   pub fits : is_full p.core.store.world p.change.event ≡ false
-  pub kept_are : AreKept kept p.core.controller (world_with p)
+  pub kept_are : AreKept kept p.core.doors p.core.controller (world_with p)
   pub evaluated : AreOf statuses tables p.core.doors p.core.controller (world_with p)
   pub patch_is : patch ≡ record { index = p.core.index; world = p.core.store.world; event = p.change.event }
 

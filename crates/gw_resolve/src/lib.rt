@@ -2,7 +2,6 @@
 #![tactic(auto)]
 
 mod evaluation;
-mod kept;
 mod outcome;
 mod prepared;
 mod resolver;

@@ -6,9 +6,9 @@ ghost use Rattle.gw_resolve.specs.Cores.{tables_at, world_with};
 
 use crate::resolver::Core;
 use gw_deps::IndexPatch;
-use gw_eval::KeptRoute;
+use gw_kept::KeptRoutes;
 use gw_match::Tables;
-use gw_status::{Shared, Statuses};
+use gw_status::Statuses;
 use gw_store::{Entry, Event};
 use gw_text::{NoMemory, Second};
 use std::alloc::Global;
@@ -21,7 +21,7 @@ use std::sync::Arc;
 pub struct Prepared {
     pub(crate) event: Event,
     pub(crate) at: Second,
-    pub(crate) kept: Vec<Shared<KeptRoute>>,
+    pub(crate) kept: KeptRoutes,
     pub(crate) statuses: Statuses,
     pub(crate) tables: Arc<Tables>,
     pub(crate) patch: IndexPatch,
@@ -37,7 +37,7 @@ impl Model for Prepared {
 
     ghost view = { λ p. record { core = p.core.value; change = record { event = seen_event p.event; at = p.at } } };
 
-    ghost invariant = { λ p. IsPrepared (record { core = p.core.value; change = record { event = seen_event p.event; at = p.at } }) p.kept.items p.statuses (arc_value p.tables) p.patch };
+    ghost invariant = { λ p. IsPrepared (record { core = p.core.value; change = record { event = seen_event p.event; at = p.at } }) p.kept p.statuses (arc_value p.tables) p.patch };
 }
 
 impl Prepared {

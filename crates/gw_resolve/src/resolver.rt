@@ -14,10 +14,10 @@ use crate::outcome::Outcome;
 use crate::prepared::Prepared;
 use crate::staying::others_stay;
 use gw_deps::{Index, touched};
-use gw_eval::KeptRoute;
 use gw_json::Refusal;
+use gw_kept::KeptRoutes;
 use gw_match::Tables;
-use gw_status::{Shared, Statuses};
+use gw_status::Statuses;
 use gw_store::{Event, Read, World, read_event};
 use gw_text::{Doors, NoMemory, Second, Steps, Text};
 use std::alloc::Global;
@@ -34,7 +34,7 @@ pub struct Core {
     controller: Arc<Text>,
     world: World,
     index: Index,
-    kept: Vec<Shared<KeptRoute>>,
+    kept: KeptRoutes,
     statuses: Statuses,
     tables: Arc<Tables>,
 }
@@ -63,7 +63,7 @@ impl Model for Core {
 
     ghost view = { λ c. record { store = c.world; doors = arc_value c.doors; controller = arc_value c.controller; index = c.index } };
 
-    ghost invariant = { λ c. IsCore c.kept.items c.statuses (arc_value c.tables) (record { store = c.world; doors = arc_value c.doors; controller = arc_value c.controller; index = c.index }) };
+    ghost invariant = { λ c. IsCore c.kept c.statuses (arc_value c.tables) (record { store = c.world; doors = arc_value c.doors; controller = arc_value c.controller; index = c.index }) };
 }
 
 /// What a line is to do to a core.
@@ -141,8 +141,8 @@ impl Core {
             &self.world,
             &self.doors,
             &self.controller,
-            self.kept.as_slice(),
-            self.statuses.gateways.as_slice(),
+            &self.kept,
+            &self.statuses.gateways,
             &event,
             &touched,
         );
@@ -153,8 +153,8 @@ impl Core {
             &self.doors,
             &self.controller,
             &self.world,
-            self.kept.as_slice(),
-            self.statuses.gateways.as_slice(),
+            &self.kept,
+            &self.statuses.gateways,
             &touched,
             steps,
         );

@@ -1,19 +1,21 @@
 //! What of the kept results an event leaves as it was.
-ghost use Rattle.std.specs.Prelude.{◌≡◌, ℤ, false};
+ghost use Rattle.std.specs.Prelude.{◌≡◌, ℤ, All, false, map};
 ghost use Rattle.std.specs.List.Sorted.{IsStrictlySortedBy};
 ghost use Rattle.gw_deps.specs.Edges.{has_key, name_order};
 ghost use Rattle.gw_deps.specs.Touching.{AreTouched};
-ghost use Rattle.gw_eval.specs.Kept.{kept_route_at, kept_routes_of};
+ghost use Rattle.gw_eval.specs.Kept.{kept_route_at};
 ghost use Rattle.gw_eval.specs.Results.{gateway_status_at};
 ghost use Rattle.gw_store.specs.SeenEvents.{seen_event};
 ghost use Rattle.gw_text.specs.model.Names.{Key as PlainKey};
 ghost use Rattle.gw_text.specs.model.Statuses.{gateway_statuses_of};
 ghost use Rattle.gw_text.specs.model.World.{apply};
-ghost use Rattle.gw_resolve.specs.Kept.{IsInOrder, gateway_status_key, kept_at, kept_route_key};
+ghost use Rattle.gw_kept.specs.Held.{gateway_status_key, kept_route_key, served_door};
+ghost use Rattle.gw_kept.specs.Places.{IsInOrder, kept_at};
+ghost use Rattle.gw_resolve.specs.Cores.{AreKept};
 
 use gw_deps::Touched;
-use gw_eval::KeptRoute;
-use gw_status::{GatewayStatus, Shared};
+use gw_kept::KeptRoutes;
+use gw_status::GatewayStatuses;
 use gw_store::{Event, World};
 use gw_text::{Doors, Text};
 use gw_untouched::{gateways_stay, objects_stand_in_order, routes_stay, touched_keys_are_all};
@@ -24,17 +26,19 @@ pub(crate) fn others_stay(
     world: &World,
     doors: &Doors,
     controller: &Text,
-    kept: &[Shared<KeptRoute>],
-    gateways: &[Shared<GatewayStatus>],
+    kept: &KeptRoutes,
+    gateways: &GatewayStatuses,
     event: &Event,
     touched: &Touched,
 )
-    requires kept { kept.now ≡ kept_routes_of controller.now world.now.world }
+    requires kept { AreKept kept.now doors.now controller.now world.now.world }
     requires gateways { gateways.now ≡ gateway_statuses_of doors.now controller.now world.now.world }
     requires touched { (at : ℤ) → AreTouched world.now.world (seen_event event.now) at touched.now }
-    ensures routes_order { IsInOrder kept_route_key kept.now }
     ensures routes { (at : ℤ) (k : PlainKey) → has_key k touched.now.routes ≡ false
-        → kept_at kept_route_key k kept.now ≡ kept_route_at controller.now (apply world.now.world (record { event = seen_event event.now; at = at })) k }
+        → kept_at kept_route_key k kept.now.kept ≡ kept_route_at controller.now (apply world.now.world (record { event = seen_event event.now; at = at })) k }
+    ensures served { (at : ℤ) → All (λ d. has_key d.door.gateway touched.now.gateways ≡ false
+        → d ≡ served_door doors.now controller.now (apply world.now.world (record { event = seen_event event.now; at = at })) d.door) kept.now.doors }
+    ensures doors { map (λ d. d.door) kept.now.doors ≡ doors.now }
     ensures gateways_order { IsInOrder gateway_status_key gateways.now }
     ensures gateways { (at : ℤ) (k : PlainKey) → has_key k touched.now.gateways ≡ false
         → kept_at gateway_status_key k gateways.now ≡ gateway_status_at doors.now controller.now (apply world.now.world (record { event = seen_event event.now; at = at })) k }

@@ -1,16 +1,15 @@
 //! After each change of a list, what was kept and evaluated is what the plain evaluation says of all objects.
 ghost use Rattle.std.specs.Prelude.{◌≡◌, ◌<◌};
 
-use gw_eval::eval_all;
+use super::comparing::{Asked, compare};
 use gw_resolve::{Core, Outcome};
-use gw_status::write_statuses;
-use gw_text::{Door, Doors, Second, Steps, Text};
+use gw_text::{Second, Steps};
 use std::alloc::Global;
 use std::marker::Brand;
 use std::sync::ledger::{Blank, Ledger};
 use std::test::*;
 
-const CONTROLLER: &str = "example.com/gateward";
+const DOORS: &[&str] = &["default/g:80=127.0.0.1:18080"];
 
 // A class, a Gateway, a Route, a Service and its slice, and then changes of each kind.
 const LINES: &str = r#"
@@ -32,26 +31,10 @@ const LINES: &str = r#"
 {"type":"DELETED","object":{"apiVersion":"gateway.networking.k8s.io/v1","kind":"Gateway","metadata":{"name":"g","namespace":"default"}}}
 "#;
 
-fn doors(alloc: Global) -> Result<Doors, Fail> {
-    let mut doors = Vec::new(alloc);
-    doors.push(Door::parse(alloc, "default/g:80=127.0.0.1:18080")?)?;
-    match Doors::new(alloc, doors) {
-        Ok(doors) => Ok(doors),
-        Err(_) => Err(Fail::from("one door breaks no rule")),
-    }
-}
-
-// The text of the plain evaluation of all objects.
-fn evaluated<L: Ledger>(alloc: Global, core: &Core, steps: &mut Steps<L>) -> Result<Text, Fail> {
-    let doors = doors(alloc)?;
-    let controller = Text::of(alloc, CONTROLLER)?;
-    let all = eval_all(alloc, core.world(), &doors, &controller, steps)?;
-    Ok(write_statuses(alloc, &all)?)
-}
-
 fn take<L: Ledger>(
     alloc: Global,
     core: &mut Core,
+    asked: &Asked,
     line: &str,
     at: Second,
     steps: &mut Steps<L>,
@@ -59,9 +42,7 @@ fn take<L: Ledger>(
     if core.change(line.as_bytes(), at, steps)? != Outcome::Accepted {
         return Err(Fail::new(format!(in alloc; "not a change: {line}")?));
     }
-    if write_statuses(alloc, core.statuses())? != evaluated(alloc, core, steps)? {
-        return Err(Fail::new(format!(in alloc; "other statuses after {line}")?));
-    }
+    compare(alloc, core, asked, line, steps)?;
     Ok(())
 }
 
@@ -71,10 +52,11 @@ fn take_all<L: Ledger>(alloc: Global, blank: Blank) -> Result<(), Fail>
     requires positive { 0 < L.parts }
 {
     let mut steps: Steps<L> = Steps::open(blank);
-    let mut core = Core::new(alloc, doors(alloc)?, Text::of(alloc, CONTROLLER)?)?;
+    let asked = Asked::at(alloc, DOORS)?;
+    let mut core = asked.core(alloc, DOORS)?;
     let mut at = 0i64;
     for line in LINES.trim().lines() {
-        take(alloc, &mut core, line, Second(at), &mut steps)?;
+        take(alloc, &mut core, &asked, line, Second(at), &mut steps)?;
         at = at.saturating_add(1);
     }
     Ok(())

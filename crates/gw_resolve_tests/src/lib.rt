@@ -3,3 +3,11 @@
 
 #[cfg(test)]
 mod changes;
+#[cfg(test)]
+mod comparing;
+#[cfg(test)]
+mod drawn;
+#[cfg(test)]
+mod objects;
+#[cfg(test)]
+mod told;

@@ -107,4 +107,12 @@ impl Rows {
     {
         self.rows.as_slice()
     }
+
+    /// The served listeners, and the rows.
+    pub fn into_parts(self) -> (Vec<ServedListener>, Vec<Row>)
+        ensures listeners { result.0.items ≡ self.listeners }
+        ensures rows { result.1.items ≡ self.rows }
+    {
+        (self.listeners, self.rows)
+    }
 }

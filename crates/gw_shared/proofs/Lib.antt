@@ -1,3 +1,5 @@
+mod Elements
 mod Finding
 mod Handles
+pub mod Pieces
 mod Placing

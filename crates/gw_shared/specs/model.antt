@@ -1,3 +1,4 @@
 pub mod Buckets
+pub mod Elements
 pub mod Entries
 pub mod Hashes

@@ -2,13 +2,12 @@
 #![tactic(auto)]
 
 mod send;
-mod shared;
 mod state;
 mod status;
 mod write;
 
+pub use gw_shared::Shared;
 pub use gw_text::{CondKind, Condition, Reason};
-pub use shared::Shared;
 pub use state::{GatewayState, ListenerState};
 pub use status::{
     ClassStatus, ClassStatuses, GatewayStatus, GatewayStatuses, ListenerStatus, ListenerStatuses,

@@ -1,5 +1,5 @@
-use crate::shared::Shared;
 use crate::state::{GatewayState, ListenerState};
+use gw_shared::SharedList;
 use gw_text::{Condition, Key, List, Name, NamespaceName, Text};
 use std::marker::Model;
 
@@ -9,14 +9,14 @@ pub type ClassStatuses = List<ClassStatus>;
 /// The statuses of a Gateway's listeners, in list order.
 pub type ListenerStatuses = List<ListenerStatus>;
 
-/// The statuses of Gateways, in key order.
-pub type GatewayStatuses = List<Shared<GatewayStatus>>;
+/// The statuses of Gateways, in key order. Copies share the leaves in which they don't differ.
+pub type GatewayStatuses = SharedList<GatewayStatus>;
 
 /// The entries of a Route, in the order of its parentRefs.
 pub type ParentStatuses = List<ParentStatus>;
 
-/// The statuses of Routes, in key order.
-pub type RouteStatuses = List<Shared<RouteStatus>>;
+/// The statuses of Routes, in key order. Copies share the leaves in which they don't differ.
+pub type RouteStatuses = SharedList<RouteStatus>;
 
 /// The status of a GatewayClass.
 #[derive(Drop)]

@@ -5,9 +5,12 @@ ghost use Rattle.gw_json.specs.Lines.{line_of};
 ghost use Rattle.gw_status.specs.StatusText.{truth_text, condition_data, http_route_data, supported_kinds, class_data, listener_data, address_data, addresses_of, gateway_status_data, gateway_data, route_data, route_line, classes_text, gateways_text, routes_text, statuses_text};
 
 use crate::send::RouteLine;
-use crate::shared::Shared;
-use crate::status::{ClassStatus, GatewayStatus, ListenerStatus, RouteStatus, Statuses};
+use crate::status::{
+    ClassStatus, GatewayStatus, GatewayStatuses, ListenerStatus, RouteStatus, RouteStatuses,
+    Statuses,
+};
 use gw_json::push_line;
+use gw_shared::Shared;
 use gw_text::{Condition, GATEWAY_GROUP, NoMemory, Socket, Text};
 use serde_json::{Value, json};
 use std::alloc::Global;
@@ -151,15 +154,31 @@ fn push_classes(alloc: Global, statuses: &[ClassStatus], text: &mut String) -> R
     Ok(())
 }
 
+fn push_gateway_piece(
+    alloc: Global,
+    piece: &[Shared<GatewayStatus>],
+    text: &mut String,
+) -> Result<(), NoMemory>
+    ensures { OnOk result (string_bytes text.new ≡ string_bytes text.old ++ gateways_text piece.now) }
+{
+    'statuses: for status in piece {
+        push_gateway(alloc, status, text)?;
+    }
+    Ok(())
+}
+
 fn push_gateways(
     alloc: Global,
-    statuses: &[Shared<GatewayStatus>],
+    statuses: &GatewayStatuses,
     text: &mut String,
 ) -> Result<(), NoMemory>
     ensures { OnOk result (string_bytes text.new ≡ string_bytes text.old ++ gateways_text statuses.now) }
 {
-    'statuses: for status in statuses {
-        push_gateway(alloc, status, text)?;
+    let mut at = 0;
+    'pieces: while at < statuses.len() {
+        let piece = statuses.piece(at);
+        push_gateway_piece(alloc, piece, text)?;
+        at += piece.len();
     }
     Ok(())
 }
@@ -185,15 +204,27 @@ fn push_route(alloc: Global, status: &RouteStatus, text: &mut String) -> Result<
     text.push('\n')
 }
 
-fn push_routes(
+fn push_route_piece(
     alloc: Global,
-    statuses: &[Shared<RouteStatus>],
+    piece: &[Shared<RouteStatus>],
     text: &mut String,
 ) -> Result<(), NoMemory>
+    ensures { OnOk result (string_bytes text.new ≡ string_bytes text.old ++ routes_text piece.now) }
+{
+    'statuses: for status in piece {
+        push_route(alloc, status, text)?;
+    }
+    Ok(())
+}
+
+fn push_routes(alloc: Global, statuses: &RouteStatuses, text: &mut String) -> Result<(), NoMemory>
     ensures { OnOk result (string_bytes text.new ≡ string_bytes text.old ++ routes_text statuses.now) }
 {
-    'statuses: for status in statuses {
-        push_route(alloc, status, text)?;
+    let mut at = 0;
+    'pieces: while at < statuses.len() {
+        let piece = statuses.piece(at);
+        push_route_piece(alloc, piece, text)?;
+        at += piece.len();
     }
     Ok(())
 }
@@ -204,8 +235,8 @@ pub fn push_statuses(alloc: Global, s: &Statuses, text: &mut String) -> Result<(
     ensures { OnOk result (string_bytes text.new ≡ string_bytes text.old ++ statuses_text s.now) }
 {
     push_classes(alloc, s.classes.as_slice(), text)?;
-    push_gateways(alloc, s.gateways.as_slice(), text)?;
-    push_routes(alloc, s.routes.as_slice(), text)
+    push_gateways(alloc, &s.gateways, text)?;
+    push_routes(alloc, &s.routes, text)
 }
 
 /// The text of the statuses alone.

@@ -86,6 +86,16 @@ impl<T: Drop> Stored<T> {
         self.first
     }
 
+    /// One handle more on the same object, which isn't copied.
+    pub fn share(&self) -> Result<Self, AllocError>
+        ensures { IfOk result (λ s. s ≡ self.now) }
+    {
+        Ok(Stored {
+            object: self.object.clone()?,
+            first: self.first,
+        })
+    }
+
     /// The object alone, as it came.
     pub fn incoming(self) -> Incoming<T>
         ensures { result ≡ self.object }

@@ -1,5 +1,5 @@
 -- Under which address the row of a Route stands, so that the rows that a request may fit are found by its host and path.
-use Rattle.std.specs.Prelude.{ℕ, List, [], ◌∷◌, Bool, true, false, ◌&&◌, ◌==◌, bytes_eq, Option, Some, None, if◌then◌else◌}
+use Rattle.std.specs.Prelude.{ℕ, List, [], ◌∷◌, Bool, true, false, ◌&&◌, bytes_eq, Option, Some, None, if◌then◌else◌}
 use Rattle.gw_rows.specs.model.Precedence.{is_exact_type}
 use Rattle.gw_rows.specs.model.Rows.{Row}
 use Rattle.gw_text.specs.model.Hostnames.{Host}
@@ -32,19 +32,18 @@ same_kind is_exact other = if is_exact then other else (if other then false else
 abbrev pub same_place : Place → Place → Bool
 same_place p other = same_kind p.is_exact other.is_exact && bytes_eq p.path other.path
 
--- A listener's number, the name of a hostname, and a place.
+-- The name of a hostname, and a place.
 pub record Address : Type 0 where
-  pub listener : ℕ
   pub name : List ℕ
   pub place : Place
 
 -- Equal addresses.
 abbrev pub same_address : Address → Address → Bool
-same_address a other = (a.listener == other.listener) && (bytes_eq a.name other.name && same_place a.place other.place)
+same_address a other = bytes_eq a.name other.name && same_place a.place other.place
 
 -- The address of a row.
 abbrev pub address_of : Row → Address
-address_of r = record { listener = r.listener; name = name_of r.hostname; place = place_of r.test.path }
+address_of r = record { name = name_of r.hostname; place = place_of r.test.path }
 
 -- The row stands at this address.
 abbrev pub stands_at : Address → Row → Bool

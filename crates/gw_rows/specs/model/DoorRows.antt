@@ -1,5 +1,5 @@
 -- The rows of a door in a world. Source: HTTPRouteSpec and HTTPRouteRule of the Gateway API reference.
-use Rattle.std.specs.Prelude.{ℕ, List, [], ◌∷◌, Bool, true, ◌&&◌, ◌==◌, map, filter, flat_map, Option, Some, None}
+use Rattle.std.specs.Prelude.{ℕ, List, [], ◌∷◌, Bool, true, ◌&&◌, ◌==◌, map, filter, flat_map, Option, Some, None, if◌then◌else◌}
 use Rattle.std.specs.List.{enumerate_from}
 use Rattle.std.specs.Option.{option_map_or}
 use Rattle.gw_text.specs.model.Chains.{◌>>=◌}
@@ -91,6 +91,11 @@ hostname_rows w l s h = flat_map (rule_rows w l s h) (enumerate_from 0 s.object.
 -- The rows of a Route at a listener.
 abbrev pub route_rows : World → ServedListener → Stored HttpRoute → List Row
 route_rows w l s = flat_map (hostname_rows w l s) (hostnames_for l.hostname s.object.hostnames)
+
+-- The rows of a Route at a listener of the door's Gateway: none where no entry attaches it to that.
+abbrev pub attached_rows : List ℕ → World → Door → ServedListener → Stored HttpRoute → List Row
+attached_rows controller w door l s =
+    if is_attached door.gateway l.number (entries_of controller w s.object) then route_rows w l s else []
 
 -- The Routes that some entry attaches to the listener, in key order.
 abbrev pub attached_routes : List ℕ → World → Door → ServedListener → List (Stored HttpRoute)

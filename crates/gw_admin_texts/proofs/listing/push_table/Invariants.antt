@@ -4,4 +4,4 @@ use Rattle.gw_admin_texts.specs.model.Listings.{rows_text}
 use Rattle.gw_admin_texts.proofs.listing.push_table.Given as goal
 
 abbrev pub invariant-rows : goal.invariant-rows
-invariant-rows l = string_bytes l.text ++ rows_text l.door (drop l.row-index l.table.rows) ≡ string_bytes l.fn.text ++ rows_text l.door l.table.rows
+invariant-rows l = string_bytes l.text ++ rows_text l.door (drop l.row-index l.row-items) ≡ string_bytes l.fn.text ++ rows_text l.door l.row-items

@@ -15,7 +15,7 @@ returns-in-Some-clause-steps g c =
 pub bytes-preserved : goal.bytes-preserved
 bytes-preserved g c =
     let host = c.args.request.now.host in
-    let look : List ℕ → Option Row = λ name. found_by_place (at_name c.args.names.now name) c.args.rows.now c.args.request.now in
+    let look : List ℕ → Option Row = λ name. found_by_place (at_name c.args.names.now name) c.args.request.now in
     let within : c.bytes.at < length host = search rules in
     record {
       row = name_turn look host c.bytes.at within c.in_default.ensures.row ∙ c.bytes.invariant.row;

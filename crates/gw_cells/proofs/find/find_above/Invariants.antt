@@ -8,8 +8,8 @@ use Rattle.gw_cells.proofs.find.find_above.Given as goal
 abbrev pub invariant-bytes : goal.invariant-bytes
 invariant-bytes g l = record {
   row :
-      first_found (λ name. found_by_place (at_name l.names name) l.rows l.request) (names_above (drop l.at l.request.host))
-      ≡ first_found (λ name. found_by_place (at_name l.names name) l.rows l.request) (names_above l.request.host);
+      first_found (λ name. found_by_place (at_name l.names name) l.request) (names_above (drop l.at l.request.host))
+      ≡ first_found (λ name. found_by_place (at_name l.names name) l.request) (names_above l.request.host);
   steps : l.steps + length (names_above (drop l.at l.request.host)) * most_for_name l.request ≤ l.fn.steps + length (names_above l.request.host) * most_for_name l.request;
   later : l.fn.steps ≤ l.steps;
 }

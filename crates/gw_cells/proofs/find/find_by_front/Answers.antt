@@ -9,7 +9,7 @@ use Rattle.gw_cells.proofs.find.find_by_front.Goals as goal
 pub ends-preserved : goal.ends-preserved
 ends-preserved g c =
     let path = c.args.request.now.path in
-    let look : Place → Option Row = λ p. first_fit c.args.rows.now c.args.request.now (at_place c.args.paths.now p) in
+    let look : Place → Option Row = λ p. first_fit c.args.request.now (at_place c.args.paths.now p) in
     let next : c.ends.end ≡ (c.ends.end - 1) + 1 = omega (arith, c.ends-test.true) in
     let fewer = front_steps look path c.ends.end (c.ends.end - 1) next in
     record {

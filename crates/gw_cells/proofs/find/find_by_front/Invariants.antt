@@ -8,8 +8,8 @@ use Rattle.gw_cells.proofs.find.find_by_front.Given as goal
 abbrev pub invariant-ends : goal.invariant-ends
 invariant-ends g l = record {
   row :
-      first_found (λ p. first_fit l.rows l.request (at_place l.paths p)) (map prefix_place (fronts l.request.path l.end))
-      ≡ first_found (λ p. first_fit l.rows l.request (at_place l.paths p)) (map prefix_place (fronts l.request.path (length l.request.path)));
+      first_found (λ p. first_fit l.request (at_place l.paths p)) (map prefix_place (fronts l.request.path l.end))
+      ≡ first_found (λ p. first_fit l.request (at_place l.paths p)) (map prefix_place (fronts l.request.path (length l.request.path)));
   steps : l.steps + length (fronts l.request.path l.end) ≡ l.fn.steps + length (fronts l.request.path (length l.request.path));
   within : l.end ≤ length l.request.path;
   later : l.fn.steps ≤ l.steps;

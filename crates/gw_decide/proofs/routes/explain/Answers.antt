@@ -12,5 +12,5 @@ returns c =
     let rows = c.args.t.now in
     let taking : option_copied c.listener-listener.result ≡ listener_at rows.listeners c.args.request.now.host =
     c.listener-listener.ensures ∙ ap (λ (q : Request). listener_at rows.listeners q.host) c.request.view_is in
-    let all = c.rows-2.ensures ∙ ap (λ (r : Rows). r.rows) c.rows.ensures in
+    let all = c.as_slice.ensures.value ∙ c.in_ok-rows.ensures in
     subst (λ (all : List Entry). IfOk c.explain_rows.result (λ e. e.items ≡ all)) (explained_at rows c.args.request.now _ _ _ taking c.row_at-best.ensures all) c.explain_rows.ensures

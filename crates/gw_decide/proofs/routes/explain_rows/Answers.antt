@@ -13,11 +13,13 @@ rows-init c = record {
 
 pub rows-preserved : goal.rows-preserved
 rows-preserved c =
-    let own : c.row.inside.key ≡ c.row-item.result.key = ap (λ (r : Row). r.key) c.row.view_is in
+    let rows = c.args.rows.now in
+    let row = c.row-item.result in
+    let why = reason_at (option_copied c.args.listener) (option_copied c.args.best) c.args.request.now in
+    let own : c.behind-row.inside.key ≡ row.key = ap (λ (r : Row). r.key) (c.behind-row.view_is ∙ c.deref-in-rows.ensures) in
     record {
       reasons =
-          next_row c.args.rows.now c.rows.row-index c.row-item.result c.rows-test.true c.row-item.is
-          (reason_at (option_copied c.args.listener) (option_copied c.args.best) c.args.request.now) c.row.inside.key c.reason_at-why.result c.rows.reasons c.note.new.self own
-          c.reason_at-why.ensures c.rows.invariant.reasons c.rows.invariant.forms c.in_ok-note.ensures.noted;
-      forms = next_form c.args.rows.now c.rows.row-index c.row-item.result c.rows-test.true c.row-item.is c.row.inside.key own c.rows.invariant.forms c.in_ok-note.ensures.form;
+          next_row rows c.rows.row-index row c.rows-test.true c.row-item.is why c.behind-row.inside.key c.reason_at-why.result c.rows.reasons c.note.new.self own
+          (c.reason_at-why.ensures ∙ ap why c.deref.ensures) c.rows.invariant.reasons c.rows.invariant.forms c.in_ok-note.ensures.noted;
+      forms = next_form rows c.rows.row-index row c.rows-test.true c.row-item.is c.behind-row.inside.key own c.rows.invariant.forms c.in_ok-note.ensures.form;
     }

@@ -1,5 +1,5 @@
 -- The slices of the Service that the backendRef names decide.
-use Rattle.std.proofs.Common.{◌≡◌, map, filter, option_map, option_copied, Bor}
+use Rattle.std.proofs.Common.{◌≡◌, map, filter, Bor}
 use Rattle.gw_objects.specs.declared.slice.EndpointSlice.{EndpointSlice}
 use Rattle.gw_text.specs.model.References.{is_slice_of}
 use Rattle.gw_text.specs.model.Routes.{backend_key}

@@ -1,10 +1,19 @@
 -- The text of the door that is there.
-use Rattle.std.proofs.Common.{◌∙◌, ap}
+use Rattle.std.proofs.Common.{◌∙◌, ap, get_or, subst, sym}
 use Rattle.std.proofs.lemmas.Result.{IfOk-weaker}
 use Rattle.gw_decide.specs.ExplainText.{explain_text}
 use Rattle.gw_rows.specs.model.DoorRows.{rows_of}
-use Rattle.gw_report.proofs.Doors.{at_door}
+use Rattle.gw_match.specs.model.Listed.{AreRowsOfDoor}
+use Rattle.gw_report.proofs.Doors.{at_door, some_door}
 use Rattle.gw_report.proofs.explanation.verdict_text.Goals as goal
+
+pub compile-requires : goal.compile-requires
+compile-requires c =
+    let doors = c.args.doors.now in
+    let controller = c.args.controller.now in
+    let w = c.args.world.now.world in
+    subst AreRowsOfDoor (sym (c.in_ok-rows.ensures some_door))
+    (c.rows_of_a_door_stand_listener_by_listener.ensures doors controller w (get_or doors c.args.door some_door) (rw c.routes-routes.ensures.value at c.routes-routes.ensures.order))
 
 pub returns : goal.returns
 returns c =

@@ -1,0 +1,27 @@
+-- None is one row with it, so it stands between those before it and those behind.
+use Rattle.std.proofs.Common.{◌≡◌, ◌∙◌, sym, ap, subst, List, insert, set}
+use Rattle.gw_rows.specs.model.Rows.{Row}
+use Rattle.gw_cells.proofs.Changing.{adds_between, adds_over}
+use Rattle.gw_cells.proofs.rows.add_row.Goals as goal
+use Rattle.gw_cells.specs.Changes.{AddsRow}
+
+pub returns-in-Ok : goal.returns-in-Ok
+returns-in-Ok c =
+    let cell = c.as_slice.result.now in
+    let row = c.deref.result.now in
+    let new = set c.args.cell.now.items c.in-Ok.at c.in_ok-row.row in
+    let own : row ≡ c.args.row.now = c.deref.ensures ∙ c.in_ok-row.ensures in
+    let over : AddsRow row cell new = adds_over row cell new c.in-Ok.at c.in-Ok.ensures.found (c.in-Ok.ensures.one row) in
+    subst (λ (l : List Row). AddsRow c.args.row.now l new) c.as_slice.ensures.value (subst (λ (r : Row). AddsRow r cell new) own over)
+
+pub returns-in_ok-insert-in-Err : goal.returns-in_ok-insert-in-Err
+returns-in_ok-insert-in-Err c =
+    let cell = c.as_slice.result.now in
+    let row = c.deref.result.now in
+    let at = c.in-Err.at in
+    let items = c.args.cell.now.items in
+    let own : row ≡ c.args.row.now = c.deref.ensures ∙ c.in_ok-row.ensures in
+    let new : insert items at c.args.row.now ≡ c.insert.new.self.items = sym (c.in_ok-insert-in-Err.ensures.items ∙ ap (insert items at) c.in_ok-row.ensures) in
+    let between : AddsRow row cell (insert cell at row) = adds_between row cell at c.in-Err.ensures.within (λ rows are. c.in-Err.ensures.between are.ordered) in
+    let there : AddsRow row items (insert items at row) = subst (λ (l : List Row). AddsRow row l (insert l at row)) c.as_slice.ensures.value between in
+    subst (AddsRow c.args.row.now items) new (subst (λ (r : Row). AddsRow r items (insert items at r)) own there)

@@ -1,0 +1,58 @@
+//! The cells of a listener, and how they follow a change of the rows of one Route.
+ghost use Rattle.std.specs.Prelude.{◌++◌, List, IfOk, OnOk};
+ghost use Rattle.gw_cells.specs.Held.{AreCellsOf};
+ghost use Rattle.gw_match.specs.model.Listed.{AreApart, rows_in};
+ghost use Rattle.gw_rows.specs.model.Rows.{Row as Plain};
+
+use crate::route_rows::RouteRows;
+use gw_cells::Cells;
+use gw_rows::Row;
+use gw_shared::Shared;
+use gw_text::NoMemory;
+use std::alloc::Global;
+
+fn take_out_all(alloc: Global, cells: &mut Cells, rows: &[Shared<Row>]) -> Result<(), NoMemory>
+    ensures { (others : List Plain) → AreCellsOf (rows.now ++ others) cells.old → OnOk result (AreCellsOf others cells.new) }
+{
+    'rows: for row in rows {
+        cells.take_out(alloc, row)?;
+    }
+    Ok(())
+}
+
+fn add_all(alloc: Global, cells: &mut Cells, rows: &[Shared<Row>]) -> Result<(), NoMemory>
+    ensures { (others : List Plain) → AreApart (rows.now ++ others) → AreCellsOf others cells.old → OnOk result (AreCellsOf (rows.now ++ others) cells.new) }
+{
+    'rows: for row in rows {
+        cells.add(alloc, row)?;
+    }
+    Ok(())
+}
+
+/// The cells of the rows of these Routes.
+pub(crate) fn cells_of(alloc: Global, routes: &[Shared<RouteRows>]) -> Result<Cells, NoMemory>
+    requires { AreApart (rows_in routes.now) }
+    ensures { IfOk result (λ cells. AreCellsOf (rows_in routes.now) cells) }
+{
+    let mut cells = Cells::new(alloc);
+    'routes: for rows in routes {
+        add_all(alloc, &mut cells, rows.as_slice())?;
+    }
+    Ok(cells)
+}
+
+/// The cells with these rows in place of those that a Route had. All other cells are shared.
+pub(crate) fn changed_cells(
+    alloc: Global,
+    cells: &Cells,
+    former: &[Shared<Row>],
+    rows: &[Shared<Row>],
+) -> Result<Cells, NoMemory>
+    ensures { (others : List Plain) → AreCellsOf (former.now ++ others) cells.now → AreApart (rows.now ++ others)
+        → IfOk result (λ changed. AreCellsOf (rows.now ++ others) changed) }
+{
+    let mut changed = cells.share(alloc)?;
+    take_out_all(alloc, &mut changed, former)?;
+    add_all(alloc, &mut changed, rows)?;
+    Ok(changed)
+}
