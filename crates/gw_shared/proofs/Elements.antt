@@ -1,4 +1,4 @@
--- Leaves, and the elements that stand in them.
+-- Branches, and the elements that stand in them.
 use Rattle.std.proofs.Common.{◌≡◌, ◌∙◌, sym, ap, ℕ, ◌+◌, ◌<◌, ◌≤◌, arith, List, ◌++◌, length, get_or, take, drop, append_assoc}
 use Rattle.std.proofs.lemmas.Grind.{flat_map-append}
 use Rattle.std.proofs.lemmas.List.{at_drop_more, drop-append-le, take-append-drop, take-append-le}
@@ -6,7 +6,7 @@ use Rattle.std.proofs.Math.Seq.{drop-append-add, take-append-add, take-append_se
 use Rattle.std.specs.List.{flat_map}
 use Rattle.gw_shared.specs.model.Elements.{replaced}
 
--- What stands in the leaves before one, in it and behind it is all.
+-- What stands in the branches before one, in it and behind it is all.
 pub parted : {A E : Type 0} (f : A → List E) (all : List A) (i : ℕ) (x : A) → i < length all → x ≡ get_or all i x
     → flat_map f all ≡ flat_map f (take i all) ++ (f x ++ flat_map f (drop (i + 1) all))
 parted {A} {E} f all i x within at =

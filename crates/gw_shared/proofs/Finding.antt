@@ -4,7 +4,7 @@ use Rattle.std.proofs.lemmas.Slice.Eq.{bytes_eq-Decides}
 use Rattle.std.proofs.lemmas.List.Folds.{find-append}
 use Rattle.std.proofs.lemmas.Bool.Decides.{Decides-eqb}
 use Rattle.std.specs.Option.{option_or}
-use Rattle.std.specs.Cmp.{first_so, second_so}
+use Rattle.std.specs.Cmp.{second_so}
 use Rattle.gw_shared.specs.model.Buckets.{without}
 use Rattle.gw_shared.specs.model.Entries.{Entry, found_in, is_of}
 use Rattle.gw_shared.specs.model.Hashes.{hash_of}

@@ -1,5 +1,6 @@
 mod Elements
 mod Finding
-mod Handles
+mod Leaves
+mod Places
 pub mod Pieces
 mod Placing

@@ -1,11 +1,11 @@
 -- What a map has under a key after one of its buckets was set, or after its entries were put into more buckets.
-use Rattle.std.proofs.Common.{◌≡◌, ◌∙◌, refl, sym, ap, subst, ℕ, zero, suc, ◌+◌, ◌*◌, ◌/◌, ◌%◌, ◌<◌, Bool, true, false, cond, eqb, ◌⊎◌, inl, inr, List, [], ◌∷◌, ◌++◌, length, get_or, set, map, filter, Option, Some, None, Result, Ok, Err, true≢false, bytes_eq, option_map, mod-lt, length-set, get_or-set_same, get_or-set_other, arith, ◌&&◌, is_ok, OnOk, OnErr}
+use Rattle.std.proofs.Common.{◌≡◌, ◌∙◌, refl, sym, ap, subst, ℕ, zero, suc, ◌+◌, ◌*◌, ◌/◌, ◌%◌, ◌<◌, Bool, true, false, cond, eqb, ◌⊎◌, inl, inr, List, [], ◌∷◌, ◌++◌, length, get_or, set, Option, Some, None, Result, Ok, Err, true≢false, bytes_eq, option_map, mod-lt, length-set, get_or-set_same, get_or-set_other, arith, ◌&&◌, is_ok, OnOk, OnErr}
 use Rattle.std.proofs.lemmas.Bool.{eqb-true}
 use Rattle.std.proofs.lemmas.Bool.Decides.{Decides-eqb}
 use Rattle.std.proofs.lemmas.List.FromFn.{get_or-map-range_with_len, length-map-range_with_len}
 use Rattle.std.proofs.lemmas.Slice.Eq.{bytes_eq-Decides}
 use Rattle.std.specs.Cmp.{first_so, second_so}
-use Rattle.std.specs.List.{list_all, range_with_len}
+use Rattle.std.specs.List.{list_all}
 use native.Mathlib.Nat.{mul_comm, mul_assoc, mul-add-mod_self_right, div-add-mod'}
 use Rattle.gw_shared.specs.model.Buckets.{bucket_of, part_of, place_of, spread, value_at, with_bucket, without}
 use Rattle.gw_shared.specs.model.Entries.{Entry, found_in, is_of}
@@ -130,12 +130,12 @@ nil_of (x ∷ items) none =
     let same : length (x ∷ items) ≡ 0 = eqb-true (length (x ∷ items)) 0 none in
     absurd (cc same)
 
-all_nil : {A E : Type 0} (f : A → List E) (all : List A) → list_all (λ b. eqb (length (f b)) 0) all ≡ true → (n : ℕ) → get_or (map f all) n [] ≡ []
-all_nil f [] each n = refl
-all_nil f (b ∷ all) each zero = nil_of (f b) (first_so (eqb (length (f b)) 0) (list_all (λ x. eqb (length (f x)) 0) all) each)
-all_nil f (b ∷ all) each (suc n) = all_nil f all (second_so (eqb (length (f b)) 0) (list_all (λ x. eqb (length (f x)) 0) all) each) n
+all_nil : {E : Type 0} (all : List (List E)) → list_all (λ b. eqb (length b) 0) all ≡ true → (n : ℕ) → get_or all n [] ≡ []
+all_nil [] each n = refl
+all_nil (b ∷ all) each zero = nil_of b (first_so (eqb (length b) 0) (list_all (λ x. eqb (length x) 0) all) each)
+all_nil (b ∷ all) each (suc n) = all_nil all (second_so (eqb (length b) 0) (list_all (λ x. eqb (length x) 0) all) each) n
 
 -- In empty buckets is nothing.
-pub none_there : {A V : Type 0} (f : A → List (Entry V)) (all : List A) (key : List ℕ) → list_all (λ b. eqb (length (f b)) 0) all ≡ true → value_at (map f all) key ≡ None
+pub none_there : {V : Type 0} (all : List (List (Entry V))) (key : List ℕ) → list_all (λ b. eqb (length b) 0) all ≡ true → value_at all key ≡ None
 unfolding value_at
-none_there f all key each = ap (found_in (hash_of key) key) (all_nil f all each (place_of (hash_of key) (map f all)))
+none_there all key each = ap (found_in (hash_of key) key) (all_nil all each (place_of (hash_of key) all))

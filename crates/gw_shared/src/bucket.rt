@@ -6,6 +6,38 @@ ghost use Rattle.gw_shared.specs.model.Entries as rules;
 use crate::slot::Slot;
 use gw_text::NoMemory;
 use std::alloc::Global;
+use std::marker::Model;
+
+/// The slots that stand in one bucket.
+#[derive(Drop)]
+pub(crate) struct Bucket<V: Drop> {
+    slots: Vec<Slot<V>>,
+}
+
+impl<V: Drop> Model for Bucket<V> {
+    ghost use Rattle.std.specs.Prelude.{List};
+    ghost use Rattle.gw_shared.specs.model.Entries.{Entry};
+
+    ghost Value = { List (Entry V) };
+
+    ghost view = { λ b. b.slots.items };
+}
+
+impl<V: Drop> Bucket<V> {
+    /// That of these slots.
+    pub(crate) fn new(slots: Vec<Slot<V>>) -> Self
+        ensures { result ≡ slots.items }
+    {
+        Bucket { slots }
+    }
+
+    /// Its slots.
+    pub(crate) fn as_slice(&self) -> &[Slot<V>]
+        ensures { result.now ≡ self.now }
+    {
+        self.slots.as_slice()
+    }
+}
 
 /// The value of a key, which has this hash.
 pub(crate) fn find_in<'s, V: Drop>(slots: &'s [Slot<V>], hash: u64, key: &[u8]) -> Option<&'s V>
@@ -43,7 +75,8 @@ pub(crate) fn without<V: Drop>(
 ) -> Result<Vec<Slot<V>>, NoMemory>
     ensures { IfOk result (λ kept. kept.items ≡ buckets.without hash key.now slots.now) }
 {
-    let mut kept = Vec::new(alloc);
+    // One more is put there, most often.
+    let mut kept = Vec::with_capacity(alloc, slots.len().saturating_add(1))?;
     'slots: for slot in slots {
         push_other(&mut kept, slot, hash, key)?;
     }

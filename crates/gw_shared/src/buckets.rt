@@ -1,111 +1,93 @@
 //! What is done with all buckets.
-ghost use Rattle.std.specs.Prelude.{◌≡◌, ◌<◌, ◌==◌, IfOk, OnOk, OnErr, length};
+ghost use Rattle.std.specs.Prelude.{◌≡◌, ◌<◌, ◌==◌, List, IfOk, get_or, length};
 ghost use Rattle.std.specs.List.{list_all};
-ghost use Rattle.gw_shared.specs.Sharing.{list_of, lists_of};
 ghost use Rattle.gw_shared.specs.model.Buckets as rules;
+ghost use Rattle.gw_shared.specs.model.Entries.{Entry};
 
-use crate::bucket::own;
+use crate::branch_list::BranchList;
+use crate::bucket::{Bucket, own};
+use crate::shared::Shared;
 use crate::slot::Slot;
 use gw_text::NoMemory;
 use std::alloc::Global;
-use std::sync::Arc;
 
-/// A handle on a bucket.
-pub(crate) type Bucket<V> = Arc<Vec<Slot<V>>>;
-
-// What a handle is of.
-fn slots_of<V: Drop>(bucket: &Bucket<V>) -> &[Slot<V>]
-    ensures { result.now ≡ list_of bucket.now }
-{
-    bucket.as_slice()
-}
-
-// One handle more on the same bucket.
-fn share_bucket<V: Drop>(bucket: &Bucket<V>) -> Result<Bucket<V>, NoMemory>
-    ensures { IfOk result (λ shared. list_of shared ≡ list_of bucket.now) }
-{
-    bucket.clone()
-}
+/// The buckets of a map.
+pub(crate) type Buckets<V> = BranchList<Bucket<V>>;
 
 /// The bucket in which the slots of a hash stand; where there are no buckets, an empty one.
-pub(crate) fn bucket_of<V: Drop>(buckets: &[Bucket<V>], hash: u64) -> &[Slot<V>]
-    ensures { result.now ≡ rules.bucket_of hash (lists_of buckets.now) }
+pub(crate) fn bucket_of<V: Drop>(buckets: &Buckets<V>, hash: u64) -> &[Slot<V>]
+    ensures { result.now ≡ rules.bucket_of hash buckets.now }
 {
-    if buckets.is_empty() {
+    if buckets.len() == 0 {
         return &[];
     }
-    let place = hash as usize % buckets.len();
-    slots_of(&buckets[place])
+    match buckets.get(hash as usize % buckets.len()) {
+        Some(bucket) => bucket.as_slice(),
+        None => &[],
+    }
+}
+
+// The bucket of this place.
+fn bucket_at<V: Drop>(buckets: &Buckets<V>, at: usize) -> &Bucket<V>
+    requires { at < length buckets.now }
+    ensures { (d : List (Entry V)) → result.now ≡ get_or buckets.now at d }
+{
+    buckets.get(at).unwrap()
 }
 
 /// Whether nothing stands in any bucket.
-pub(crate) fn are_empty<V: Drop>(buckets: &[Bucket<V>]) -> bool
-    ensures { result ≡ list_all (λ b. length (list_of b) == 0) buckets.now }
+pub(crate) fn are_empty<V: Drop>(buckets: &Buckets<V>) -> bool
+    ensures { result ≡ list_all (λ b. length b == 0) buckets.now }
 {
-    'buckets: for bucket in buckets {
-        if !slots_of(bucket).is_empty() {
+    'buckets: for at in 0..buckets.len() {
+        if !bucket_at(buckets, at).as_slice().is_empty() {
             return false;
         }
     }
     true
 }
 
-/// A handle on each bucket.
-pub(crate) fn share<V: Drop>(
+/// A copy of the buckets, with these slots in the one in which those of a hash stand.
+pub(crate) fn with_bucket<V: Drop>(
     alloc: Global,
-    buckets: &[Bucket<V>],
-) -> Result<Vec<Bucket<V>>, NoMemory>
-    ensures { IfOk result (λ shared. lists_of shared.items ≡ lists_of buckets.now) }
-{
-    let mut shared = Vec::with_capacity(alloc, buckets.len())?;
-    'buckets: for bucket in buckets {
-        shared.push(share_bucket(bucket)?)?;
-    }
-    Ok(shared)
-}
-
-/// Puts these slots into the bucket in which those of a hash stand.
-pub(crate) fn set_bucket<V: Drop>(
-    alloc: Global,
-    buckets: &mut Vec<Bucket<V>>,
+    buckets: &Buckets<V>,
     hash: u64,
     slots: Vec<Slot<V>>,
-) -> Result<(), NoMemory>
-    requires { 0 < length buckets.old.items }
-    ensures set { OnOk result (lists_of buckets.new.items ≡ rules.with_bucket hash slots.items (lists_of buckets.old.items)) }
-    ensures kept { OnErr result (buckets.new ≡ buckets.old) }
+) -> Result<Buckets<V>, NoMemory>
+    requires { 0 < length buckets.now }
+    ensures { IfOk result (λ changed. changed ≡ rules.with_bucket hash slots.items buckets.now) }
 {
-    let bucket = Arc::new(alloc, slots)?;
+    let bucket = Shared::new(alloc, Bucket::new(slots))?;
     let place = hash as usize % buckets.len();
-    buckets[place] = bucket;
-    Ok(())
+    let changed = buckets.with_put(alloc, place, bucket)?;
+    Ok(changed)
 }
 
 // The bucket of one place, where the buckets are so many.
 fn part<V: Drop>(
     alloc: Global,
-    buckets: &[Bucket<V>],
+    buckets: &Buckets<V>,
     number: u64,
     place: u64,
-) -> Result<Bucket<V>, NoMemory>
+) -> Result<Shared<Bucket<V>>, NoMemory>
     requires { 0 < number }
-    ensures { IfOk result (λ bucket. list_of bucket ≡ rules.part_of number (lists_of buckets.now) place) }
+    ensures { IfOk result (λ bucket. bucket ≡ rules.part_of number buckets.now place) }
 {
     let slots = own(alloc, bucket_of(buckets, place), number, place)?;
-    Ok(Arc::new(alloc, slots)?)
+    Shared::new(alloc, Bucket::new(slots))
 }
 
 /// The same slots in so many buckets.
 pub(crate) fn spread<V: Drop>(
     alloc: Global,
-    buckets: &[Bucket<V>],
+    buckets: &Buckets<V>,
     number: u64,
-) -> Result<Vec<Bucket<V>>, NoMemory>
-    ensures { IfOk result (λ spread. lists_of spread.items ≡ rules.spread number (lists_of buckets.now)) }
+) -> Result<Buckets<V>, NoMemory>
+    ensures { IfOk result (λ spread. spread ≡ rules.spread number buckets.now) }
 {
     let mut spread = Vec::new(alloc);
     'places: for place in 0..number {
         spread.push(part(alloc, buckets, number, place)?)?;
     }
-    Ok(spread)
+    BranchList::from_vec(alloc, spread)
 }

@@ -1,64 +1,151 @@
-//! What is done with one leaf.
-ghost use Rattle.std.specs.Prelude.{◌≡◌, ◌+◌, ◌≤◌, ◌++◌, IfOk, OnOk, length, option_to_list};
-ghost use Rattle.gw_shared.specs.Sharing.{list_of};
-ghost use Rattle.gw_shared.specs.model.Elements as elements;
+//! The leaves of a list.
+ghost use Rattle.std.specs.Prelude.{◌≡◌, ◌≤◌, ◌+◌, ◌∷◌, [], ◌++◌, length, take, drop, get_or, IfOk, OnOk};
+ghost use Rattle.std.specs.List.{flat_map};
+ghost use Rattle.gw_shared.specs.Sharing.{in_leaves};
 
+use crate::branch_list::BranchList;
 use crate::shared::Shared;
 use gw_text::NoMemory;
 use std::alloc::Global;
-use std::sync::Arc;
+use std::marker::Model;
+use std::mem;
 
-/// A handle on a leaf: on the handles of elements that stand one behind another.
-pub(crate) type Leaf<T> = Arc<Vec<Shared<T>>>;
+/// How many elements a leaf has at most.
+const MOST_IN_LEAF: usize = 128;
 
-/// What a handle is of.
-pub(crate) fn handles_of<T: Drop>(leaf: &Leaf<T>) -> &[Shared<T>]
-    ensures { result.now ≡ list_of leaf.now }
-{
-    leaf.as_slice()
+/// Elements that stand one behind another.
+#[derive(Drop)]
+pub(crate) struct Leaf<T: Drop> {
+    handles: Vec<Shared<T>>,
 }
 
-/// One handle more on the same leaf.
-pub(crate) fn share_leaf<T: Drop>(leaf: &Leaf<T>) -> Result<Leaf<T>, NoMemory>
-    ensures { IfOk result (λ shared. list_of shared ≡ list_of leaf.now) }
-{
-    leaf.clone()
+impl<T: Drop> Model for Leaf<T> {
+    ghost use Rattle.std.specs.Prelude.{List};
+
+    ghost Value = { List T };
+
+    ghost view = { λ l. l.handles.items };
 }
 
-// Puts a handle on each of these elements at the end.
-fn push_handles<T: Drop>(kept: &mut Vec<Shared<T>>, handles: &[Shared<T>]) -> Result<(), NoMemory>
-    ensures { OnOk result (kept.new.items ≡ kept.old.items ++ handles.now) }
-{
-    'handles: for handle in handles {
-        kept.push(handle.share()?)?;
+/// Leaves one behind another.
+pub(crate) type Leaves<T> = BranchList<Leaf<T>>;
+
+impl<T: Drop> Leaf<T> {
+    // These elements, behind a handle.
+    fn new(alloc: Global, handles: Vec<Shared<T>>) -> Result<Shared<Self>, NoMemory>
+        ensures { IfOk result (λ leaf. leaf ≡ handles.items) }
+    {
+        Shared::new(alloc, Leaf { handles })
     }
-    Ok(())
-}
 
-// Puts this element at the end, if there is one.
-fn push_value<T: Drop>(kept: &mut Vec<Shared<T>>, value: Option<Shared<T>>) -> Result<(), NoMemory>
-    ensures { OnOk result (kept.new.items ≡ kept.old.items ++ option_to_list value) }
-{
-    if let Some(value) = value {
-        kept.push(value)?;
+    /// Its elements.
+    pub(crate) fn as_slice(&self) -> &[Shared<T>]
+        ensures { result.now ≡ self.now }
+    {
+        self.handles.as_slice()
     }
-    Ok(())
 }
 
-/// Handles on these elements, with this one, if there is one, in place of so many from a place on.
-pub(crate) fn with_change<T: Drop>(
+// Puts these elements at the end, as one leaf; where there are none, nothing.
+fn push_leaf<T: Drop>(
     alloc: Global,
-    handles: &[Shared<T>],
-    at: usize,
-    count: usize,
-    value: Option<Shared<T>>,
-) -> Result<Vec<Shared<T>>, NoMemory>
-    requires { at + count ≤ length handles.now }
-    ensures { IfOk result (λ changed. changed.items ≡ elements.replaced at count (option_to_list value) handles.now) }
+    kept: &mut Vec<Shared<Leaf<T>>>,
+    handles: Vec<Shared<T>>,
+) -> Result<(), NoMemory>
+    ensures { OnOk result (in_leaves kept.new.items ≡ in_leaves kept.old.items ++ handles.items) }
 {
-    let mut changed = Vec::with_capacity(alloc, handles.len().saturating_add(1))?;
-    push_handles(&mut changed, &handles[..at])?;
-    push_value(&mut changed, value)?;
-    push_handles(&mut changed, &handles[at + count..])?;
-    Ok(changed)
+    if handles.is_empty() {
+        return Ok(());
+    }
+    kept.push(Leaf::new(alloc, handles)?)?;
+    Ok(())
+}
+
+// Puts this element at the end: into the leaf that grows, which goes behind the others once it is full.
+fn push_growing<T: Drop>(
+    alloc: Global,
+    kept: &mut Vec<Shared<Leaf<T>>>,
+    growing: &mut Vec<Shared<T>>,
+    handle: Shared<T>,
+) -> Result<(), NoMemory>
+    ensures { OnOk result (in_leaves kept.new.items ++ growing.new.items ≡ (in_leaves kept.old.items ++ growing.old.items) ++ handle ∷ []) }
+{
+    growing.push(handle)?;
+    if growing.len() < MOST_IN_LEAF {
+        return Ok(());
+    }
+    let full = mem::replace(growing, Vec::new(alloc));
+    push_leaf(alloc, kept, full)
+}
+
+/// These elements in leaves, all of which but the last one are full.
+pub(crate) fn leaves_of<T: Drop>(
+    alloc: Global,
+    handles: Vec<Shared<T>>,
+) -> Result<Leaves<T>, NoMemory>
+    ensures { IfOk result (λ leaves. in_leaves leaves ≡ handles.items) }
+{
+    let mut leaves = Vec::new(alloc);
+    let mut growing = Vec::new(alloc);
+    'handles: for handle in handles {
+        push_growing(alloc, &mut leaves, &mut growing, handle)?;
+    }
+    push_leaf(alloc, &mut leaves, growing)?;
+    BranchList::from_vec(alloc, leaves)
+}
+
+// The leaves with one that has these elements in place of the one of this place, or at the end.
+fn with_leaf<T: Drop>(
+    alloc: Global,
+    leaves: &Leaves<T>,
+    at: usize,
+    handles: Vec<Shared<T>>,
+) -> Result<Leaves<T>, NoMemory>
+    requires { at ≤ length leaves.now }
+    ensures { IfOk result (λ changed. changed ≡ take at leaves.now ++ handles.items ∷ drop (at + 1) leaves.now) }
+{
+    let leaf = Leaf::new(alloc, handles)?;
+    if at < leaves.len() {
+        return leaves.with_put(alloc, at, leaf);
+    }
+    leaves.with_inserted(alloc, at, leaf)
+}
+
+// The leaves without the one of this place, if there is one.
+fn without_leaf<T: Drop>(
+    alloc: Global,
+    leaves: &Leaves<T>,
+    at: usize,
+) -> Result<Leaves<T>, NoMemory>
+    requires { at ≤ length leaves.now }
+    ensures { IfOk result (λ changed. changed ≡ take at leaves.now ++ drop (at + 1) leaves.now) }
+{
+    if at < leaves.len() {
+        return leaves.without(alloc, at);
+    }
+    leaves.share(alloc)
+}
+
+/// The leaves with these elements in place of those of the leaf of this place, or at the end: as one leaf, as two where they are too
+/// many for one, or as none where there are none.
+pub(crate) fn with_elements<T: Drop>(
+    alloc: Global,
+    leaves: &Leaves<T>,
+    at: usize,
+    mut handles: Vec<Shared<T>>,
+) -> Result<Leaves<T>, NoMemory>
+    requires { at ≤ length leaves.now }
+    ensures { IfOk result (λ changed. in_leaves changed ≡ in_leaves (take at leaves.now) ++ (handles.items ++ in_leaves (drop (at + 1) leaves.now))) }
+{
+    if handles.is_empty() {
+        return without_leaf(alloc, leaves, at);
+    }
+    if handles.len() <= MOST_IN_LEAF {
+        return with_leaf(alloc, leaves, at, handles);
+    }
+    let half = handles.len() / 2;
+    let behind = Leaf::new(alloc, handles.split_off(half)?)?;
+    let front = with_leaf(alloc, leaves, at, handles)?;
+    let all = front.with_inserted(alloc, at + 1, behind)?;
+    Ok(all)
 }

@@ -1,15 +1,18 @@
-//! A map from bytes to values, the copies of which share what they have in common: a change costs a bucket and the list of buckets.
-//! A list of the same kind: a change costs a leaf and the list of leaves.
+//! A list, the copies of which share what they have in common: a change costs a leaf, a branch of leaves, and the list of branches.
+//! A map from bytes to values of the same kind, whose buckets stand in such branches.
 #![tactic(auto)]
 
+mod branch;
+mod branch_list;
+mod branches;
 mod bucket;
 mod buckets;
 mod hash;
 mod leaf;
-mod leaves;
 mod list;
 mod map;
 mod place;
+mod position;
 mod shared;
 mod slot;
 

@@ -2,30 +2,31 @@
 ghost use Rattle.std.specs.Prelude.{◌≡◌, ◌+◌, ◌<◌, ◌≤◌, ◌++◌, ◌∷◌, [], IfOk, length, take, drop, slice_get, option_copied, option_to_list};
 ghost use Rattle.gw_shared.specs.model.Elements as elements;
 
-use crate::leaf::Leaf;
-use crate::leaves::{leaves_from, push_leaves};
-use crate::place::place_of;
+use crate::branch::with_change;
+use crate::branch_list::BranchList;
+use crate::leaf::{Leaves, leaves_of, with_elements};
+use crate::position::position_of;
 use crate::shared::Shared;
 use gw_text::NoMemory;
 use std::alloc::Global;
 use std::marker::Model;
 
-/// A list. Its copies share the leaves in which they don't differ.
+/// A list, whose elements stand in leaves, and these in branches. Its copies share the branches and leaves in which they don't differ.
 #[derive(Drop)]
 pub struct SharedList<T: Drop> {
-    leaves: Vec<Leaf<T>>,
+    leaves: Leaves<T>,
     count: usize,
 }
 
 impl<T: Drop> Model for SharedList<T> {
     ghost use Rattle.std.specs.Prelude.{◌≡◌, List, length};
-    ghost use Rattle.gw_shared.specs.Sharing.{elements_of};
+    ghost use Rattle.gw_shared.specs.Sharing.{in_leaves};
 
     ghost Value = { List T };
 
-    ghost view = { λ l. elements_of l.leaves.items };
+    ghost view = { λ l. in_leaves l.leaves };
 
-    ghost invariant = { λ l. l.count ≡ length (elements_of l.leaves.items) };
+    ghost invariant = { λ l. l.count ≡ length (in_leaves l.leaves) };
 }
 
 impl<T: Drop> SharedList<T> {
@@ -34,7 +35,7 @@ impl<T: Drop> SharedList<T> {
         ensures { result ≡ [] }
     {
         SharedList {
-            leaves: Vec::new(alloc),
+            leaves: BranchList::new(alloc),
             count: 0,
         }
     }
@@ -44,7 +45,7 @@ impl<T: Drop> SharedList<T> {
         ensures { IfOk result (λ list. list ≡ items.items) }
     {
         let count = items.len();
-        let leaves = leaves_from(alloc, items)?;
+        let leaves = leaves_of(alloc, items)?;
         Ok(SharedList { leaves, count })
     }
 
@@ -62,8 +63,8 @@ impl<T: Drop> SharedList<T> {
         if at >= self.count {
             return None;
         }
-        let place = place_of(self.leaves.as_slice(), at, 1);
-        Some(&place.own[place.at])
+        let position = position_of(&self.leaves, at, 1);
+        Some(&position.own[position.at])
     }
 
     /// The element of this place, found by a walk over the leaves.
@@ -83,18 +84,16 @@ impl<T: Drop> SharedList<T> {
         if at >= self.count {
             return &[];
         }
-        let place = place_of(self.leaves.as_slice(), at, 1);
-        &place.own[place.at..]
+        let position = position_of(&self.leaves, at, 1);
+        &position.own[position.at..]
     }
 
-    /// A copy, which shares all leaves: it takes a handle on each.
+    /// A copy, which shares all leaves: it takes a handle on each branch.
     pub fn share(&self, alloc: Global) -> Result<Self, NoMemory>
         ensures { IfOk result (λ copy. copy ≡ self.now) }
     {
-        let mut leaves = Vec::with_capacity(alloc, self.leaves.len())?;
-        push_leaves(&mut leaves, self.leaves.as_slice())?;
         Ok(SharedList {
-            leaves,
+            leaves: self.leaves.share(alloc)?,
             count: self.count,
         })
     }
@@ -115,9 +114,11 @@ impl<T: Drop> SharedList<T> {
         let Some(number) = (self.count - count).checked_add(added) else {
             return Err(NoMemory);
         };
-        let place = place_of(self.leaves.as_slice(), at, count);
+        let position = position_of(&self.leaves, at, count);
+        let own = with_change(alloc, position.own, position.at, count, value)?;
+        let leaves = with_elements(alloc, &self.leaves, position.leaf, own)?;
         Ok(SharedList {
-            leaves: place.changed(alloc, count, value)?,
+            leaves,
             count: number,
         })
     }

@@ -2,8 +2,9 @@
 ghost use Rattle.std.specs.Prelude.{◌≡◌, ℕ, List, ◌<◌, ◌*◌, ◌⊎◌, ◌&&◌, bytes_eq, IfOk, IfSome, OnOk, OnErr, None, Some, true, option_copied, is_ok, length, if◌then◌else◌};
 ghost use Rattle.gw_shared.specs.model.Buckets as rules;
 
+use crate::branch_list::BranchList;
 use crate::bucket::{find_in, without};
-use crate::buckets::{Bucket, are_empty, bucket_of, set_bucket, share, spread};
+use crate::buckets::{Buckets, are_empty, bucket_of, spread, with_bucket};
 use crate::hash::hash_of;
 use crate::slot::Slot;
 use gw_text::NoMemory;
@@ -16,18 +17,17 @@ const MOST_ON_AVERAGE: usize = 32;
 /// A map from bytes to values. Its copies share the buckets in which they don't differ.
 #[derive(Drop)]
 pub struct SharedMap<V: Drop> {
-    buckets: Vec<Bucket<V>>,
+    buckets: Buckets<V>,
     count: usize,
 }
 
 impl<V: Drop> Model for SharedMap<V> {
     ghost use Rattle.std.specs.Prelude.{List};
-    ghost use Rattle.gw_shared.specs.Sharing.{lists_of};
     ghost use Rattle.gw_shared.specs.model.Entries.{Entry};
 
     ghost Value = { List (List (Entry V)) };
 
-    ghost view = { λ m. lists_of m.buckets.items };
+    ghost view = { λ m. m.buckets };
 }
 
 // How many buckets there are next: one, or four times as many.
@@ -47,7 +47,7 @@ impl<V: Drop> SharedMap<V> {
         ensures { (key : List ℕ) → rules.value_at result key ≡ None }
     {
         SharedMap {
-            buckets: Vec::new(alloc),
+            buckets: BranchList::new(alloc),
             count: 0,
         }
     }
@@ -58,22 +58,22 @@ impl<V: Drop> SharedMap<V> {
         ensures { option_copied result ≡ rules.value_at self.now key.now }
     {
         let hash = hash_of(key);
-        find_in(bucket_of(self.buckets.as_slice(), hash), hash, key)
+        find_in(bucket_of(&self.buckets, hash), hash, key)
     }
 
     /// Whether nothing is in it.
     pub fn is_empty(&self) -> bool
         ensures { result ≡ true → (key : List ℕ) → rules.value_at self.now key ≡ None }
     {
-        are_empty(self.buckets.as_slice())
+        are_empty(&self.buckets)
     }
 
-    /// A copy, which shares all buckets.
+    /// A copy, which shares all buckets: it takes a handle on each leaf of their list.
     pub fn share(&self, alloc: Global) -> Result<Self, NoMemory>
         ensures { IfOk result (λ copy. copy ≡ self.now) }
     {
         Ok(SharedMap {
-            buckets: share(alloc, self.buckets.as_slice())?,
+            buckets: self.buckets.share(alloc)?,
             count: self.count,
         })
     }
@@ -89,7 +89,7 @@ impl<V: Drop> SharedMap<V> {
         let Some(number) = more_buckets(self.buckets.len()) else {
             return Err(NoMemory);
         };
-        self.buckets = spread(alloc, self.buckets.as_slice(), number)?;
+        self.buckets = spread(alloc, &self.buckets, number)?;
         Ok(())
     }
 
@@ -99,9 +99,9 @@ impl<V: Drop> SharedMap<V> {
         ensures set { OnOk result (self.new ≡ rules.with_bucket hash slots.items self.old) }
         ensures kept { OnErr result (self.new ≡ self.old) }
     {
-        let before = bucket_of(self.buckets.as_slice(), hash).len();
+        let before = bucket_of(&self.buckets, hash).len();
         let now = slots.len();
-        set_bucket(alloc, &mut self.buckets, hash, slots)?;
+        self.buckets = with_bucket(alloc, &self.buckets, hash, slots)?;
         self.count = self.count.saturating_sub(before).saturating_add(now);
         Ok(())
     }
@@ -113,7 +113,7 @@ impl<V: Drop> SharedMap<V> {
         let hash = hash_of(key);
         let slot = Slot::new(alloc, hash, key, value)?;
         self.make_room(alloc)?;
-        let mut slots = without(alloc, bucket_of(self.buckets.as_slice(), hash), hash, key)?;
+        let mut slots = without(alloc, bucket_of(&self.buckets, hash), hash, key)?;
         slots.push(slot)?;
         self.set(alloc, hash, slots)
     }
@@ -122,11 +122,11 @@ impl<V: Drop> SharedMap<V> {
     pub fn remove(&mut self, alloc: Global, key: &[u8]) -> Result<(), NoMemory>
         ensures { (other : List ℕ) → rules.value_at self.new other ≡ (if is_ok result && bytes_eq other key.now then None else rules.value_at self.old other) }
     {
-        if self.buckets.is_empty() {
+        if self.buckets.len() == 0 {
             return Ok(());
         }
         let hash = hash_of(key);
-        let slots = without(alloc, bucket_of(self.buckets.as_slice(), hash), hash, key)?;
+        let slots = without(alloc, bucket_of(&self.buckets, hash), hash, key)?;
         self.set(alloc, hash, slots)
     }
 }

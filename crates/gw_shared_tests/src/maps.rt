@@ -70,22 +70,23 @@ fn has_what_a_plain_map_has(rt: HostRuntime) -> Result<(), Fail> {
     Ok(())
 }
 
+// So many keys that the list of buckets has several leaves.
 #[test]
 fn a_copy_stays_as_it_was(rt: HostRuntime) -> Result<(), Fail> {
     let alloc = rt.alloc();
     let mut map = SharedMap::new(alloc);
-    for number in 0..100 {
+    for number in 0..10_000 {
         map.put(alloc, name(alloc, number)?.as_bytes(), number)?;
     }
     let copy = map.share(alloc)?;
-    for number in 0..200 {
+    for number in 0..20_000 {
         map.put(alloc, name(alloc, number)?.as_bytes(), 7)?;
     }
     map.remove(alloc, b"/key/40")?;
     assert!(rt; copy.get(b"/key/40").copied() == Some(40));
-    assert!(rt; copy.get(b"/key/140").is_none());
+    assert!(rt; copy.get(b"/key/14000").is_none());
     assert!(rt; map.get(b"/key/40").is_none());
-    assert!(rt; map.get(b"/key/140").copied() == Some(7));
+    assert!(rt; map.get(b"/key/14000").copied() == Some(7));
     Ok(())
 }
 

@@ -1,5 +1,5 @@
 -- A map as its buckets, what it has under a key, and what its buckets become.
-use Rattle.std.specs.Prelude.{ℕ, ◌%◌, ◌==◌, Bool, not, List, [], ◌∷◌, ◌++◌, length, map, filter, Option, slice_index_or, slice_set}
+use Rattle.std.specs.Prelude.{ℕ, ◌%◌, ◌==◌, not, List, [], length, map, filter, Option, slice_index_or, slice_set}
 use Rattle.std.specs.List.{range_with_len}
 use Rattle.gw_shared.specs.model.Entries.{Entry, found_in, is_of}
 use Rattle.gw_shared.specs.model.Hashes.{hash_of}

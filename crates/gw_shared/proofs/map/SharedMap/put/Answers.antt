@@ -1,6 +1,5 @@
 -- The bucket of the key gets a new entry, in place of the one that was there.
 use Rattle.std.proofs.Common.{◌≡◌, ◌∙◌, ap, cond, bytes_eq, ◌∷◌, [], ◌++◌, Some}
-use Rattle.gw_shared.specs.Sharing.{lists_of}
 use Rattle.gw_shared.specs.model.Buckets.{bucket_of, value_at, with_bucket, without}
 use Rattle.gw_shared.proofs.Placing.{changed, put_value}
 use Rattle.gw_shared.proofs.map.SharedMap.put.Goals as goal
@@ -10,8 +9,7 @@ returns g c = λ other.
     let key = c.args.key.now in
     let hash = c.hash_of-hash.result in
     let old = c.make_room.new.self in
-    let bucket : c.bucket_of.result.now ≡ bucket_of hash old =
-    c.bucket_of.ensures ∙ ap (λ s. bucket_of hash (lists_of s)) c.as_slice.ensures.value ∙ ap (bucket_of hash) c.self.view_is in
+    let bucket : c.bucket_of.result.now ≡ bucket_of hash old = c.bucket_of.ensures ∙ ap (bucket_of hash) c.self.view_is in
     let entries : c.push.new.self.items ≡ without hash key (bucket_of hash old) ++ record { hash = hash; key = key; value = c.args.value } ∷ [] =
     c.in_ok-push.ensures.items
     ∙ ap (λ s. s ++ c.in_ok-slot.slot ∷ []) (c.in_ok-slots.ensures ∙ ap (without hash key) bucket)
