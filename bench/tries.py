@@ -5,6 +5,7 @@ import contextlib
 import json
 import random
 import statistics
+import string
 import tempfile
 import time
 from dataclasses import dataclass, field
@@ -19,6 +20,8 @@ MIB = 1024 * 1024
 LARGE = 8 * MIB
 MOST_BODY = MIB
 MOST_HEAD = 16_384
+# Of what names of parameters may be made.
+NAME_LETTERS = string.ascii_letters + string.digits + "-._~!$'()*,;:@/"
 # What is to come at once has so many seconds.
 SOON = 10
 
@@ -213,9 +216,16 @@ def filled(front, unit, end):
     return (front + unit * ((MOST_HEAD - len(front) - len(end)) // len(unit)) + end).encode()
 
 
+def with_many_names(front, end):
+    """A head as long, with as many parameters of different names as fit, in no order."""
+    names = [first + second + "&" for first in NAME_LETTERS for second in NAME_LETTERS]
+    random.Random(1).shuffle(names)
+    return (front + "".join(names[:(MOST_HEAD - len(front) - len(end)) // 3]) + end).encode()
+
+
 def heads():
     """Heads that are answered, each with its name; the first one is what others are compared with. That of `parameters, many matches` is for a
-    Route with 64 matches of 16 parameters, of which 15 are the last ones in the request."""
+    Route with 64 matches of 16 parameters, of which 15 are the last ones in the request; so is `many names, many matches`."""
     line, host, end = "GET / HTTP/1.1\r\n", "Host: %s\r\n" % BEHAVED, "\r\n\r\n"
     last = "".join("&p%d=" % number for number in range(15))
     yield "one field", filled(line + host + "A: ", "a", end)
@@ -227,6 +237,9 @@ def heads():
     yield "elements that name fields", filled(line + host + "".join("f%d: \r\n" % n for n in range(97)) + "Connection: ", "f96,", "f0" + end)
     yield "parameters", filled("GET /?", "a&", "b HTTP/1.1\r\n" + host + "\r\n")
     yield "escapes in parameters", filled("GET /?", "%41&", "b HTTP/1.1\r\n" + host + "\r\n")
+    yield "parameters of many names", with_many_names("GET /?", "b HTTP/1.1\r\n" + host + "\r\n")
+    yield "many names, many matches", with_many_names("GET /?", last[1:] + " HTTP/1.1\r\nHost: %s\r\n\r\n" % MANY_MATCHES)
+    yield "empty parameters", filled("GET /?", "&", "b HTTP/1.1\r\n" + host + "\r\n")
     yield "parameters, many matches", filled("GET /?", "a&", last[1:] + " HTTP/1.1\r\nHost: %s\r\n\r\n" % MANY_MATCHES)
     yield "elements of a path", filled("GET ", "/a", " HTTP/1.1\r\n" + host + "\r\n")
     yield "cookies", filled(line + host + "Cookie: ", "a=b; ", "c=d" + end)

@@ -4,11 +4,12 @@ ghost use Rattle.gw_cells.specs.Cells as cells;
 ghost use Rattle.gw_cells.specs.model.Addresses.{DOT};
 ghost use Rattle.gw_cells.specs.model.Choice.{first_found};
 ghost use Rattle.gw_cells.specs.model.Probes as probes;
-ghost use Rattle.gw_rows.specs.model.Fitting.{parameters_of};
+ghost use Rattle.gw_query.specs.model.Parameters.{parameters_of};
 
 use crate::maps::{Names, Paths};
 use gw_frames::Request;
-use gw_rows::{Parameters, Row, fits_with};
+use gw_query::Parameters;
+use gw_rows::{Row, fits_with};
 use gw_shared::Shared;
 use gw_text::Steps;
 use std::sync::ledger::Ledger;

@@ -13,7 +13,7 @@ use gw_text::{Key, NoMemory};
 use std::alloc::Global;
 
 /// How many Routes are attached to each listener of each Gateway. Copies share the numbers in which they don't differ: a Route that is
-/// added or taken out costs the numbers of the Gateways to which it is attached, and the lists of the buckets in which these stand.
+/// added or taken out costs the numbers of the Gateways to which it is attached, and the groups of buckets in which these stand.
 #[derive(Drop)]
 pub struct Counts {
     pub(crate) namespaces: Namespaces,

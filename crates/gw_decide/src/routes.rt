@@ -1,4 +1,5 @@
 ghost use Rattle.std.specs.Prelude.{◌≡◌, IfOk, option_copied};
+ghost use Rattle.gw_query.specs.model.Parameters.{parameters_of};
 ghost use Rattle.gw_rows.specs.model.Fitting as fitting;
 ghost use Rattle.gw_decide.specs.Entries.{explained_over};
 ghost use Rattle.gw_decide.specs.model.Reasons as rules;
@@ -8,7 +9,8 @@ use crate::verdict::row_at;
 use crate::why::Why;
 use gw_frames::Request;
 use gw_match::DoorTable;
-use gw_rows::{Parameters, Row, ServedListener, Test, failed_test_with};
+use gw_query::Parameters;
+use gw_rows::{Row, ServedListener, Test, failed_test_with};
 use gw_shared::Shared;
 use gw_text::NoMemory;
 use std::alloc::Global;
@@ -49,7 +51,7 @@ fn reason_at(
     parameters: &Parameters,
     row: &Row,
 ) -> Why
-    requires { parameters.now ≡ fitting.parameters_of request.now.query }
+    requires { parameters.now ≡ parameters_of request.now.query }
     ensures { result ≡ rules.reason_at (option_copied listener.entry) (option_copied best.entry) request.now row.now }
 {
     match listener {
@@ -61,7 +63,7 @@ fn reason_at(
 }
 
 fn reason_here(best: Option<&Row>, request: &Request, parameters: &Parameters, row: &Row) -> Why
-    requires { parameters.now ≡ fitting.parameters_of request.now.query }
+    requires { parameters.now ≡ parameters_of request.now.query }
     ensures { result ≡ rules.reason_here (option_copied best.entry) (fitting.failed_test row.now request.now) row.now }
 {
     match failed_test_with(row, request, parameters) {

@@ -4,6 +4,7 @@ ghost use Rattle.gw_text.specs.model.Matches.{path_fits};
 ghost use Rattle.gw_filters.specs.model.Locations.{full_path, modified, query_text};
 
 use gw_path::replace_prefix;
+use gw_query::Query;
 use gw_route::{PathMatch, PathModifier};
 use gw_text::{NoMemory, Text};
 use std::alloc::Global;
@@ -39,7 +40,7 @@ fn full_path(alloc: Global, value: &Text) -> Result<Text, NoMemory>
 }
 
 /// Puts the query behind a path.
-pub fn push_query(text: &mut Vec<u8>, query: &Option<Text>) -> Result<(), NoMemory>
+pub fn push_query(text: &mut Vec<u8>, query: &Option<Query>) -> Result<(), NoMemory>
     ensures { OnOk result (text.new.items ≡ text.old.items ++ query_text query.now) }
 {
     match query {

@@ -195,6 +195,12 @@ pub head_needs : (i : Inlet) → i.stage ≡ Head → i.over ≡ false → IsCut
 head_needs i head over part =
     rw over (at_head i [] false [] head (no_head (subst (λ (b : List ℕ). IsCut ends_head 16384 b part_section) (sym (append-nil i.buffer)) part) refl))
 
+-- nothing more without more bytes of a body
+pub body_needs : (i : Inlet) (o : Opening) (r : Reading) → i.stage ≡ Reads o r → i.over ≡ false → Comes r i.buffer part_body → Still i [] i.over []
+body_needs i o r reads over part =
+    rw over (subst (λ (s : Stage). StillAt s i.count (i.buffer ++ []) false []) (sym reads)
+    (part_body, subst (λ (b : List ℕ). Comes r b part_body) (sym (append-nil i.buffer)) part, refl))
+
 -- the bytes end where a head isn't whole
 pub head_over : (i : Inlet) → i.stage ≡ Head → i.over ≡ true → IsCut ends_head 16384 i.buffer part_section
     → (next : List ℕ) (over : Bool) → IsFuture i.over next over → Still i next over (after_no_head i.buffer true)

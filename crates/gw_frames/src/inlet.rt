@@ -119,16 +119,21 @@ impl Inlet {
         self.stage.ended()
     }
 
-    // Whether a head comes next that isn't whole, and more bytes may come. Asked first, it spares the large results of what follows.
+    // Whether a head or a body comes next that isn't whole, and more bytes may come. Asked first, it spares the large results of what follows.
     fn waits(&mut self) -> bool
-        ensures head { result ≡ true → self.old.stage ≡ Stage.Head }
+        ensures open { result ≡ true → ended_by self.old.stage ≡ None }
         ensures need { result ≡ true → IsStill self.old Step.Need }
         ensures same { self.new ≡ self.old }
     {
-        let Stage::Head = &self.stage else {
+        if self.over {
             return false;
-        };
-        !self.over && matches!(self.buffer.find_head(), Found::Part)
+        }
+        match &self.stage {
+            Stage::Head => matches!(self.buffer.find_head(), Found::Part),
+            Stage::Body(_, reading) => reading.waits(&self.buffer),
+            Stage::Closing(_) => false,
+            Stage::Done(_) => false,
+        }
     }
 
     // The step where a head comes next, if there is one before its body.
@@ -198,6 +203,7 @@ impl Inlet {
         };
         let reading = Reading::new(self.alloc, limits, opening.size);
         self.buffer.advance(length);
+        reading.make_room(&mut self.buffer);
         self.stage = Stage::Body(opening, reading);
         if expects {
             return Some(Step::Continue);

@@ -17,6 +17,7 @@ use crate::rules::{code_of, is_framed, size_of};
 use crate::target::read_target;
 use gw_messages::element::same_word;
 use gw_messages::field::{Values, has_element, values_of};
+use gw_query::Query;
 use gw_text::{Field, Fields, NoMemory, Text};
 use http_uri::Uri;
 use std::alloc::Global;
@@ -71,7 +72,7 @@ fn request_of(alloc: Global, head: Head, target: &Uri, framed: bool) -> Result<R
     let authority = authority_of(alloc, &head, target)?;
     let host = lower(alloc, split_host(authority.bytes()).0)?;
     let path = Text::of(alloc, path_of(target))?;
-    let query = copy_query(alloc, target)?;
+    let query = read_query(alloc, target)?;
     let fields = hosted(alloc, head.fields, target)?;
     Ok(Request {
         method: head.method,
@@ -88,11 +89,11 @@ fn request_of(alloc: Global, head: Head, target: &Uri, framed: bool) -> Result<R
     })
 }
 
-fn copy_query(alloc: Global, target: &Uri) -> Result<Option<Text>, NoMemory>
+fn read_query(alloc: Global, target: &Uri) -> Result<Option<Query>, NoMemory>
     ensures { IfOk result (λ query. query ≡ query_of (target_of target.now).path_and_query) }
 {
     match target.query() {
-        Some(query) => Ok(Some(Text::of(alloc, query)?)),
+        Some(query) => Ok(Some(Query::of(alloc, query)?)),
         None => Ok(None),
     }
 }

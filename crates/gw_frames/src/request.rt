@@ -1,3 +1,4 @@
+use gw_query::Query;
 use gw_text::{Fields, Text};
 use std::marker::Model;
 
@@ -13,7 +14,7 @@ pub struct Request {
     pub authority: Text,
     /// The authority without its port, in lower case.
     pub host: Text,
-    pub query: Option<Text>,
+    pub query: Option<Query>,
     pub minor: u8,
     pub fields: Fields,
     pub body: Text,

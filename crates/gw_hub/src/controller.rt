@@ -101,6 +101,7 @@ impl<R: Wait + Drop> Controller<R> {
         match prepare::<Brand>(&mut self.core, line, at, Blank::new(1))? {
             Step::Ready(prepared) => {
                 if let Err(fault) = append(self.alloc, &mut self.publisher, &prepared) {
+                    // Dropped by name: at the return its many parts would be dropped one by one, and be part of what is to show there.
                     drop(prepared);
                     return Err(Refusal::from(fault));
                 }

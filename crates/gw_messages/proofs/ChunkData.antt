@@ -1,7 +1,7 @@
 -- The data of chunks.
 use Rattle.std.proofs.Common.{◌≡◌, ℕ, ◌+◌, ◌≤◌, ◌<◌, Bool, true, false, not, cond, List, [], ◌∷◌, ◌++◌, ◌==◌, ◌&&◌, length, take, drop, refl, arith, length-append, min, nat_lt}
 use Rattle.std.proofs.lemmas.Bool.{lt-ltb, le-ltb, ltb-true, ltb-false}
-use Rattle.std.proofs.lemmas.List.{take-append-le, drop-append-le, length-drop}
+use Rattle.std.proofs.lemmas.List.{take-append-le, drop-append-le, drop_all, length-drop}
 use Rattle.gw_messages.specs.model.Bodies.{whole_body, bad_body, part_body, begins_as_line_end, chunk_data}
 use Rattle.gw_messages.specs.declared.fault.BodyFault.TheVariants.{Malformed, TooBig}
 
@@ -72,3 +72,11 @@ data_more room size bytes more content rest e =
     let end : not (begins_as_line_end (drop size bytes ++ more)) ≡ false = rw (take-append-le 2 (drop size bytes) more behind_data) tests.1 in
     let long : nat_lt (length (bytes ++ more)) (size + 2) ≡ false = le-ltb (length (bytes ++ more)) (size + 2) (omega (arith, enough, length-append bytes more)) in
     rw (still, split, end, long, take-append-le size bytes more fits, drop-append-le (size + 2) bytes more enough) refl
+
+-- fewer bytes than a chunk's data are a part
+pub few_data : (room size : ℕ) (bytes : List ℕ) → length bytes < size → length bytes ≤ room → chunk_data room size bytes ≡ part_body
+few_data room size bytes few fits =
+    let small : nat_lt room (min size (length bytes)) ≡ false = le-ltb room (min size (length bytes)) (omega (arith, few, fits)) in
+    let none : drop size bytes ≡ [] = drop_all size bytes (omega (arith, few)) in
+    let short : nat_lt (length bytes) (size + 2) ≡ true = lt-ltb (length bytes) (size + 2) (omega (arith, few)) in
+    rw (small, none, short) refl

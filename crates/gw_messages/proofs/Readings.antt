@@ -1,21 +1,21 @@
 -- How far bodies have come.
-use Rattle.std.proofs.Common.{◌≡◌, ℕ, ◌+◌, ◌-◌, ◌≤◌, ◌<◌, Bool, true, false, List, [], ◌++◌, length, take, drop, refl, sym, ap, ◌∙◌, subst, arith, length-append, append_assoc, min, eq-eqb, nat_lt, ◌&&◌, ◌==◌, if◌then◌else◌}
+use Rattle.std.proofs.Common.{◌≡◌, ℕ, ◌+◌, ◌-◌, ◌≤◌, ◌<◌, Bool, true, false, List, [], ◌++◌, length, take, drop, refl, sym, ap, ◌∙◌, subst, arith, length-append, append_assoc, min, eq-eqb, nat_le, nat_lt, ◌&&◌, ◌==◌, if◌then◌else◌}
 use Rattle.std.specs.Prelude.{Result, Ok, Err, OnErr}
-use Rattle.std.proofs.lemmas.Bool.{eqb-false, lt-ltb, le-ltb}
+use Rattle.std.proofs.lemmas.Bool.{and_parts, eqb-false, leb-true, lt-ltb, le-ltb, ltb-true}
 use borrow.Author.Tests.{eqb-true}
-use Rattle.std.proofs.lemmas.List.{take-append-le, drop-append-le, drop-take, drop-drop, length-take, length-take-le, length-drop, take-append-drop, append-nil}
+use Rattle.std.proofs.lemmas.List.{take_all, take-append-le, drop-append-le, drop-take, drop-drop, length-take, length-take-le, length-drop, take-append-drop, append-nil}
 use Rattle.gw_messages.specs.model.Sections.{IsCut, NoneBelow, whole_section, long_section, ends_trailers}
 use Rattle.gw_messages.proofs.Sections.{take_take, long_more, whole_more}
 use Rattle.gw_messages.specs.model.Bodies.{Body, whole_body, bad_body, part_body, behind, within, Chunks, last_chunk, stopped_chunk, whole_chunk, IsChunked, IsLine, whole_line, chunk_data}
 use Rattle.gw_messages.specs.declared.fault.BodyFault.{BodyFault}
-use Rattle.gw_messages.proofs.ChunkData.{data_more, data_size}
+use Rattle.gw_messages.proofs.ChunkData.{data_more, data_size, few_data}
 use Rattle.gw_messages.proofs.ChunkLines.{line_more, seen_more}
 use Rattle.gw_messages.specs.Chunks.{IsData}
 use Rattle.gw_messages.specs.declared.chunk.Data.{Data}
-use Rattle.gw_messages.specs.Readings.{behind_line, within_after, IsFinished, IsRest, Leads, IsProgress}
+use Rattle.gw_messages.specs.Readings.{behind_line, waits_at, waits_for_data, within_after, Decodes, IsFinished, IsRest, Leads, IsProgress}
 use Rattle.gw_messages.specs.declared.body.Decoder.{Decoder}
 use Rattle.gw_messages.specs.declared.body.Stage.{Stage}
-use Rattle.gw_messages.specs.declared.body.Stage.TheVariants.{Data as BeforeData, Trailers}
+use Rattle.gw_messages.specs.declared.body.Stage.TheVariants.{Line as BeforeLine, Data as BeforeData, Trailers}
 use Rattle.gw_messages.specs.declared.body.Reading.{Reading}
 use Rattle.gw_messages.specs.declared.body.Reading.TheVariants.{Chunked}
 use Rattle.gw_messages.specs.declared.body.Progress.{Progress}
@@ -224,3 +224,21 @@ data_seen room len used size front seen d len_is front_is is =
 pub fewer : (n most : ℕ) (before after : List ℕ) → 0 < n → 0 < length (take most before) → after ≡ drop n before → length after < length before
 fewer n most before after some seen e =
     omega (arith, some, seen, length-take most before, ap length e, length-drop n before)
+
+-- fewer bytes than a chunk's data are nothing yet
+pub waiting : (d : Decoder) (bytes : List ℕ) → waits_for_data d (length bytes) ≡ true → Decodes d bytes part_body
+waiting d bytes waits =
+    let at = at_stage d.stage (d.limits.content - length d.content.items) (d.limits.encoded + 1 - d.taken) waits in
+    (part_body, at.1, not_many d.limits.encoded d.taken bytes (omega (arith, at.0)))
+  where
+    at_stage : (stage : Stage) (room most : ℕ) → waits_at stage room most (length bytes) ≡ true → (length bytes < most) × IsRest stage room (take most bytes) part_body
+    at_stage BeforeLine room most e = cc
+    at_stage (BeforeData size) room most e =
+        let first = and_parts (nat_lt (length bytes) size) _ e in
+        let second = and_parts (nat_le (length bytes) room) (nat_lt (length bytes) most) first.1 in
+        let few : length bytes < most = ltb-true _ _ second.1 in
+        let part = few_data room size bytes (ltb-true _ _ first.0) (leb-true _ _ second.0) in (
+          few,
+          subst (λ (s : List ℕ). IsRest (BeforeData size) room s part_body) (sym (take_all most bytes (omega (arith, few)))) (λ chunk some line. stopped_chunk size bytes some line (sym part) refl),
+        )
+    at_stage Trailers room most e = cc

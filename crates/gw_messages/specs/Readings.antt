@@ -1,5 +1,5 @@
 -- How far a body has come, and what it comes to with the bytes behind.
-use Rattle.std.specs.Prelude.{ℕ, ◌+◌, ◌-◌, ◌<◌, ◌≤◌, ◌≡◌, List, ◌++◌, length, take, drop, ◌&&◌, ◌==◌, nat_lt, if◌then◌else◌}
+use Rattle.std.specs.Prelude.{ℕ, ◌+◌, ◌-◌, ◌<◌, ◌≤◌, ◌≡◌, List, ◌++◌, length, take, drop, ◌&&◌, ◌==◌, Bool, false, nat_le, nat_lt, if◌then◌else◌}
 use Rattle.gw_messages.specs.model.Bodies.{Body, whole_body, bad_body, part_body, behind, limited_body, Chunks, IsLine, whole_line, after_trailers}
 use Rattle.gw_messages.specs.model.Sections.{Section, IsCut, ends_trailers}
 use Rattle.gw_messages.specs.declared.fault.BodyFault.TheVariants.{TooBig as IsTooBig}
@@ -56,3 +56,17 @@ abbrev pub IsFinished : ℕ → List ℕ → ℕ → Progress → Type 0
 IsFinished most content taken (progresses.Whole whole) = (taken ≤ most) × (whole.items ≡ content)
 IsFinished most content taken (progresses.Bad fault) = (most < taken) × (fault ≡ IsTooBig)
 IsFinished most content taken progresses.Part = ⊥
+
+-- Fewer bytes have come than a chunk's data are, where so much room is left in the body and so many bytes may come.
+abbrev pub waits_at : Stage → ℕ → ℕ → ℕ → Bool
+waits_at stages.Line room most count = false
+waits_at (stages.Data size) room most count = nat_lt count size && (nat_le count room && nat_lt count most)
+waits_at stages.Trailers room most count = false
+
+abbrev pub waits_for_data : Decoder → ℕ → Bool
+waits_for_data d count = waits_at d.stage (d.limits.content - length d.content.items) (d.limits.encoded + 1 - d.taken) count
+
+-- It shows by the count of bytes that nothing comes of a body yet.
+abbrev pub waits : Reading → List ℕ → Bool
+waits (Sized room size) bytes = nat_lt (length bytes) size && nat_le (length bytes) room
+waits (Chunked d) bytes = waits_for_data d (length bytes)

@@ -1,4 +1,4 @@
-ghost use Rattle.std.specs.Prelude.{◌≡◌, ◌+◌, ◌-◌, ◌^◌, ◌<◌, ◌≤◌, length, take, List, ℕ, IfOk, IfSome, OnErr, Ok, None};
+ghost use Rattle.std.specs.Prelude.{◌≡◌, ◌+◌, ◌-◌, ◌^◌, ◌<◌, ◌≤◌, length, take, true, List, ℕ, IfOk, IfSome, OnErr, Ok, None};
 ghost use Rattle.gw_messages.specs.model.Bodies.{Body, IsBody, part_body};
 
 use crate::buffer::Buffer;
@@ -64,7 +64,7 @@ pub enum Progress {
 }
 
 impl Reading {
-    ghost use Rattle.gw_messages.specs.Readings.{Comes, IsProgress, Leads};
+    ghost use Rattle.gw_messages.specs.Readings.{Comes, IsProgress, Leads, waits};
 
     /// Nothing came of a body of so many bytes, or of a chunked one.
     pub fn new(alloc: Global, limits: Limits, size: Option<usize>) -> Self
@@ -89,7 +89,35 @@ impl Reading {
     {
         match self {
             Reading::Sized(room, size) => buffer.read_sized(alloc, *room, *size),
-            Reading::Chunked(decoder) => decoder.read(buffer),
+            Reading::Chunked(decoder) => {
+                let progress = decoder.read(buffer)?;
+                buffer.shrink();
+                Ok(progress)
+            }
+        }
+    }
+
+    /// Makes room for what was announced and hasn't come, once where the body begins.
+    pub fn make_room(&self, buffer: &mut Buffer)
+        ensures { buffer.new ≡ buffer.old }
+    {
+        let Reading::Sized(_, size) = self else {
+            return;
+        };
+        if buffer.bytes().len() < *size {
+            buffer.make_room(*size);
+        }
+    }
+
+    /// Whether it shows by the count of bytes that nothing comes of the body yet. Asked first, it spares the large result of `read`.
+    pub fn waits(&self, buffer: &Buffer) -> bool
+        ensures value { result ≡ waits self.now buffer.now }
+        ensures part { result ≡ true → Comes self.now buffer.now part_body }
+    {
+        let count = buffer.bytes().len();
+        match self {
+            Reading::Sized(room, size) => count < *size && count <= *room,
+            Reading::Chunked(decoder) => decoder.waits(count),
         }
     }
 }
@@ -108,7 +136,6 @@ impl Buffer {
             return Ok(Progress::Bad(BodyFault::TooBig));
         }
         if count < size {
-            self.make_room(size);
             return Ok(Progress::Part);
         }
         let body = self.take(alloc, size)?;
@@ -131,9 +158,21 @@ impl Stage {
 }
 
 impl Decoder {
-    ghost use Rattle.gw_messages.specs.Readings.{IsFinished, IsProgress, IsRest, Leads};
+    ghost use Rattle.gw_messages.specs.Readings.{IsFinished, IsProgress, IsRest, Leads, waits_for_data};
     ghost use Rattle.gw_messages.specs.declared.body.Reading.TheVariants.{Chunked as IsChunked};
     ghost use Rattle.gw_messages.specs.declared.body.Stage.TheVariants.{Line as IsBeforeLine, Data as IsBeforeData, Trailers as IsBeforeTrailers};
+
+    // Whether so many bytes are fewer than the data of the chunk that comes next, and not too many.
+    fn waits(&self, count: usize) -> bool
+        ensures { result ≡ waits_for_data self.now count }
+    {
+        let Stage::Data(size) = self.stage else {
+            return false;
+        };
+        (count as u64) < size
+            && count <= self.limits.content - self.content.len()
+            && count < self.limits.encoded + 1 - self.taken
+    }
 
     // Takes part after part.
     fn read(&mut self, buffer: &mut Buffer) -> Result<Progress, NoMemory>
@@ -175,7 +214,7 @@ impl Decoder {
         };
         self.stage = Stage::behind_line(size);
         self.taken += length;
-        buffer.advance(length);
+        buffer.skip(length);
         None
     }
 
@@ -199,7 +238,7 @@ impl Decoder {
         self.content.extend_from_slice(&seen[..end])?;
         self.stage = Stage::Line;
         self.taken += end + 2;
-        buffer.advance(end + 2);
+        buffer.skip(end + 2);
         Ok(None)
     }
 

@@ -95,14 +95,21 @@ impl Buffer {
         requires { count ≤ length self.old }
         ensures { self.new ≡ drop count self.old }
     {
+        self.skip(count);
+        self.shrink();
+    }
+
+    /// The same where more is taken soon: their memory is freed only where nothing is left.
+    pub fn skip(&mut self, count: usize)
+        requires { count ≤ length self.old }
+        ensures { self.new ≡ drop count self.old }
+    {
         self.heads = Search::new();
         self.trailers = Search::new();
         self.lines = LineSearch::new();
         self.start += count;
         if self.start == self.bytes.len() {
             self.clear();
-        } else {
-            self.shrink();
         }
     }
 
@@ -146,8 +153,8 @@ impl Buffer {
         Ok(())
     }
 
-    // Frees what was taken, where that is much. Where there is no memory for the rest, all stays.
-    fn shrink(&mut self)
+    /// Frees what was taken, where that is much. Where there is no memory for the rest, all stays.
+    pub fn shrink(&mut self)
         ensures { self.new ≡ self.old }
     {
         if self.bytes.capacity() > MOST_KEPT {

@@ -44,6 +44,7 @@ impl Numbers {
         Ok(())
     }
 
+    /// The numbers, in the order in which they were put in.
     pub fn as_slice(&self) -> &[u64]
         ensures { result.now ≡ self.now }
     {

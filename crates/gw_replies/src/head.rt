@@ -27,16 +27,43 @@ impl Model for Head {
     ghost view = { λ h. record { code = h.code; phrase = h.phrase; fields = h.fields } };
 }
 
-/// How many fields most heads have at most: their spans need no memory.
+/// How many fields most heads have at most, and most of those that have many bytes: their spans need no memory.
 const FEW_FIELDS: usize = 32;
+
+const MANY_FIELDS: usize = 128;
+
+/// The most bytes of a head that is read with room for few fields at first.
+const MOST_OF_FEW: usize = 2048;
 
 /// The head that the bytes are, all of them.
 pub fn read_head(alloc: Global, bytes: &[u8]) -> Result<Option<Head>, NoMemory>
     ensures { IfOk result (IsHead bytes.now) }
 {
+    if bytes.len() > MOST_OF_FEW {
+        return read_long_head(alloc, bytes);
+    }
     let mut spans = [EMPTY_HEADER_SPAN; FEW_FIELDS];
-    match parse_response(bytes, &mut spans) {
-        Ok(Status::Complete(head)) => copy_head(alloc, bytes, &head, &spans),
+    read_with(alloc, bytes, &mut spans)
+}
+
+// The same with room for many fields. It stands apart, so that the others don't fill that room.
+fn read_long_head(alloc: Global, bytes: &[u8]) -> Result<Option<Head>, NoMemory>
+    ensures { IfOk result (IsHead bytes.now) }
+{
+    let mut spans = [EMPTY_HEADER_SPAN; MANY_FIELDS];
+    read_with(alloc, bytes, &mut spans)
+}
+
+// The same with room for so many fields at first.
+fn read_with(
+    alloc: Global,
+    bytes: &[u8],
+    spans: &mut [HeaderSpan],
+) -> Result<Option<Head>, NoMemory>
+    ensures { IfOk result (IsHead bytes.now) }
+{
+    match parse_response(bytes, spans) {
+        Ok(Status::Complete(head)) => copy_head(alloc, bytes, &head, spans),
         Ok(Status::Partial) => Ok(None),
         Err(_) => read_large_head(alloc, bytes),
     }

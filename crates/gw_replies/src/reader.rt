@@ -118,16 +118,23 @@ impl ReplyReader {
         }
     }
 
-    // Whether a head comes next that isn't whole, and more bytes may come. Asked first, it spares the large results of what follows.
+    // Whether a head or a body comes next that isn't whole, and more bytes may come. Asked first, it spares the large results of what follows.
     fn waits(&mut self) -> bool
         ensures need { result ≡ true → IsStep self.old self.old ReplyStep.Need }
         ensures open { result ≡ true → IsOpen self.old.stage }
         ensures same { self.new ≡ self.old }
     {
-        let Stage::Head = &self.stage else {
+        let over = self.over;
+        if over {
             return false;
-        };
-        !self.over && matches!(self.buffer.find_head(), Found::Part)
+        }
+        match &self.stage {
+            Stage::Head => matches!(self.buffer.find_head(), Found::Part),
+            Stage::Body(_, reading) => reading.waits(&self.buffer),
+            Stage::ToEnd(_) => false,
+            Stage::Done => false,
+            Stage::Failed(_) => false,
+        }
     }
 
     // The step where nothing was given.
@@ -225,6 +232,7 @@ impl ReplyReader {
     {
         let stage = Stage::of(self.alloc, head, self.taken + size);
         self.buffer.advance(size);
+        stage.make_room(&mut self.buffer);
         self.stage = stage;
     }
 
@@ -340,6 +348,15 @@ impl Stage {
                 Reading::new(alloc, limits, Some(size)),
             ),
             Extent::End => Stage::ToEnd(head.opened(alloc)),
+        }
+    }
+
+    // Makes room for a body that was announced.
+    fn make_room(&self, buffer: &mut Buffer)
+        ensures { buffer.new ≡ buffer.old }
+    {
+        if let Stage::Body(_, reading) = self {
+            reading.make_room(buffer);
         }
     }
 }

@@ -1,5 +1,4 @@
 pub mod Combined
-pub mod Cuts
 pub mod Firsts
 pub mod Foremost
 pub mod Ordered

@@ -1,5 +1,3 @@
 pub mod Combined
-pub mod Cut
 pub mod Kept
-pub mod Parts
 pub mod model

@@ -1,14 +1,15 @@
 ghost use Rattle.std.specs.Prelude.{◌≡◌};
+ghost use Rattle.gw_query.specs.model.Parameters.{parameters_of};
 ghost use Rattle.gw_text.specs.model.Matches.{path_fits};
 ghost use Rattle.gw_rows.specs.model.Fitting as rules;
 
 use crate::headers::headers_fit;
-use crate::parameters::Parameters;
 use crate::query::query_fits;
 use crate::row::Row;
 use gw_frames::Request;
 use gw_host::covers;
 use gw_path::fits_by;
+use gw_query::Parameters;
 use gw_route::PathMatch;
 use gw_text::{Host, Text};
 
@@ -49,7 +50,7 @@ fn method_fits(asked: &Option<Text>, method: &Text) -> bool
 /// The first test of the row that doesn't hold of the request, whose parameters were cut.
 #[tactic(auto, unfolding(crate::specs::model::Fitting::failed_test))]
 pub fn failed_test_with(row: &Row, request: &Request, parameters: &Parameters) -> Option<Test>
-    requires { parameters.now ≡ rules.parameters_of request.now.query }
+    requires { parameters.now ≡ parameters_of request.now.query }
     ensures { result ≡ rules.failed_test row.now request.now }
 {
     if !hostname_fits(&row.hostname, &request.host) {
@@ -80,7 +81,7 @@ pub fn failed_test(row: &Row, request: &Request) -> Option<Test>
 /// Whether all tests of the row hold of the request, whose parameters were cut.
 #[tactic(auto, unfolding(crate::specs::model::Fitting::fits, crate::specs::model::Fitting::failed_test))]
 pub fn fits_with(row: &Row, request: &Request, parameters: &Parameters) -> bool
-    requires { parameters.now ≡ rules.parameters_of request.now.query }
+    requires { parameters.now ≡ parameters_of request.now.query }
     ensures { result ≡ rules.fits row.now request.now }
 {
     failed_test_with(row, request, parameters).is_none()

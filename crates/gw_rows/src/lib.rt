@@ -5,13 +5,11 @@ mod counted;
 mod fitting;
 mod headers;
 mod order;
-mod parameters;
 mod plan;
 mod query;
 mod row;
 
 pub use fitting::{Test, failed_test, failed_test_with, fits, fits_with};
 pub use order::{better, is_total_order, precedence};
-pub use parameters::Parameters;
 pub use plan::{Backend, Backends, Plan, Plans};
 pub use row::{Row, Rows, ServedListener};

@@ -1,19 +1,19 @@
 //! What matches ask of the parameters of a query.
 ghost use Rattle.std.specs.Prelude.{◌≡◌, ◌||◌, length};
 ghost use Rattle.std.specs.List.{list_all, list_any};
-ghost use Rattle.gw_rows.specs.Cut.{parameter_in};
+ghost use Rattle.gw_query.specs.Values.{value_in};
 ghost use Rattle.gw_rows.specs.model.Fitting as rules;
 
 use crate::counted::one_unless;
-use crate::parameters::{Parameters, Part};
+use gw_query::{Parameters, Value};
 use gw_route::QueryParamMatch;
 use gw_text::ValueMatchType;
 
-fn value_fits(part: &Part, asked: &QueryParamMatch) -> bool
-    ensures { result ≡ rules.value_fits asked.now.sort asked.now.value (parameter_in part.now).value }
+fn value_fits(value: &Value, asked: &QueryParamMatch) -> bool
+    ensures { result ≡ rules.value_fits asked.now.sort asked.now.value (value_in value.now) }
 {
     match &asked.sort {
-        ValueMatchType::Exact => part.has_value(asked.value.bytes()),
+        ValueMatchType::Exact => value.is(asked.value.bytes()),
         ValueMatchType::Other(_) => false,
     }
 }
@@ -21,8 +21,8 @@ fn value_fits(part: &Part, asked: &QueryParamMatch) -> bool
 fn query_param_fits(query: &Parameters, asked: &QueryParamMatch) -> bool
     ensures { result ≡ rules.query_param_fits query.now asked.now }
 {
-    match query.first_named(asked.name.bytes()) {
-        Some(part) => value_fits(&part, asked),
+    match query.first_value(&asked.name) {
+        Some(value) => value_fits(&value, asked),
         None => false,
     }
 }

@@ -1,6 +1,6 @@
 mod Elements
 mod Finding
-mod Leaves
-mod Places
+mod Groups
 pub mod Pieces
+mod Places
 mod Placing

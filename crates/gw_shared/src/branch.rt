@@ -1,64 +1,108 @@
-//! What is done with one branch.
-ghost use Rattle.std.specs.Prelude.{◌≡◌, ◌+◌, ◌≤◌, ◌++◌, IfOk, OnOk, length, option_to_list};
-ghost use Rattle.gw_shared.specs.Sharing.{list_of};
+//! Branches.
+ghost use Rattle.std.specs.Prelude.{◌≡◌, ◌+◌, ◌≤◌, IfOk, IfSome, length, option_to_list};
+ghost use Rattle.gw_shared.specs.Sharing.{elements_of};
 ghost use Rattle.gw_shared.specs.model.Elements as elements;
 
+use crate::cut::pieces_of;
+use crate::handle::Handle;
+use crate::leaf::Leaf;
+use crate::part::{Part, parts_replaced, piece_of};
 use crate::shared::Shared;
 use gw_text::NoMemory;
 use std::alloc::Global;
-use std::sync::Arc;
+use std::marker::Model;
 
-/// A handle on a branch: on the handles of elements that stand one behind another.
-pub(crate) type Branch<T> = Arc<Vec<Shared<T>>>;
-
-/// What a handle is of.
-pub(crate) fn handles_of<T: Drop>(branch: &Branch<T>) -> &[Shared<T>]
-    ensures { result.now ≡ list_of branch.now }
-{
-    branch.as_slice()
-}
-
-/// One handle more on the same branch.
-pub(crate) fn share_branch<T: Drop>(branch: &Branch<T>) -> Result<Branch<T>, NoMemory>
-    ensures { IfOk result (λ shared. list_of shared ≡ list_of branch.now) }
-{
-    branch.clone()
-}
-
-// Puts a handle on each of these elements at the end.
-fn push_handles<T: Drop>(kept: &mut Vec<Shared<T>>, handles: &[Shared<T>]) -> Result<(), NoMemory>
-    ensures { OnOk result (kept.new.items ≡ kept.old.items ++ handles.now) }
-{
-    'handles: for handle in handles {
-        kept.push(handle.share()?)?;
-    }
-    Ok(())
-}
-
-// Puts this element at the end, if there is one.
-fn push_value<T: Drop>(kept: &mut Vec<Shared<T>>, value: Option<Shared<T>>) -> Result<(), NoMemory>
-    ensures { OnOk result (kept.new.items ≡ kept.old.items ++ option_to_list value) }
-{
-    if let Some(value) = value {
-        kept.push(value)?;
-    }
-    Ok(())
-}
-
-/// Handles on these elements, with this one, if there is one, in place of so many from a place on.
-pub(crate) fn with_change<T: Drop>(
-    alloc: Global,
-    handles: &[Shared<T>],
-    at: usize,
+/// A handle on some leaves, beside the number of their elements.
+#[derive(Drop)]
+pub(crate) struct Branch<T: Drop> {
+    leaves: Shared<Vec<Leaf<T>>>,
     count: usize,
-    value: Option<Shared<T>>,
-) -> Result<Vec<Shared<T>>, NoMemory>
-    requires { at + count ≤ length handles.now }
-    ensures { IfOk result (λ changed. changed.items ≡ elements.replaced at count (option_to_list value) handles.now) }
+}
+
+impl<T: Drop> Model for Branch<T> {
+    ghost use Rattle.std.specs.Prelude.{◌≡◌, List, length};
+    ghost use Rattle.gw_shared.specs.Sharing.{elements_of};
+
+    ghost Value = { List T };
+
+    ghost view = { λ b. elements_of b.leaves.items };
+
+    ghost invariant = { λ b. b.count ≡ length (elements_of b.leaves.items) };
+}
+
+// How many elements stand in these leaves.
+fn count_of<T: Drop>(leaves: &[Leaf<T>]) -> Option<usize>
+    ensures { IfSome result (λ count. count ≡ length (elements_of leaves.now)) }
 {
-    let mut changed = Vec::with_capacity(alloc, handles.len().saturating_add(1))?;
-    push_handles(&mut changed, &handles[..at])?;
-    push_value(&mut changed, value)?;
-    push_handles(&mut changed, &handles[at + count..])?;
-    Ok(changed)
+    let mut count = 0usize;
+    'leaves: for leaf in leaves {
+        count = count.checked_add(leaf.len())?;
+    }
+    Some(count)
+}
+
+impl<T: Drop> Branch<T> {
+    // That of these leaves.
+    fn new(alloc: Global, leaves: Vec<Leaf<T>>) -> Result<Self, NoMemory>
+        ensures { IfOk result (λ branch. branch ≡ elements_of leaves.items) }
+    {
+        let Some(count) = count_of(leaves.as_slice()) else {
+            return Err(NoMemory);
+        };
+        let leaves = Shared::new(alloc, leaves)?;
+        Ok(Branch { leaves, count })
+    }
+}
+
+// These leaves in as few branches as there can be.
+fn branches_of<T: Drop>(alloc: Global, leaves: Vec<Leaf<T>>) -> Result<Vec<Branch<T>>, NoMemory>
+    ensures { IfOk result (λ branches. elements_of branches.items ≡ elements_of leaves.items) }
+{
+    let mut branches = Vec::new(alloc);
+    'pieces: for piece in pieces_of(alloc, leaves)? {
+        branches.push(Branch::new(alloc, piece)?)?;
+    }
+    Ok(branches)
+}
+
+impl<T: Drop> Handle for Branch<T> {
+    fn one_more(&self) -> Result<Self, NoMemory> {
+        Ok(Branch {
+            leaves: self.leaves.share()?,
+            count: self.count,
+        })
+    }
+}
+
+impl<T: Drop> Part<T> for Branch<T> {
+    ghost elements = { λ branch. branch };
+
+    fn parts_of(alloc: Global, items: Vec<Shared<T>>) -> Result<Vec<Self>, NoMemory>
+        ensures { IfOk result (λ parts. elements_of parts.items ≡ items.items) }
+    {
+        branches_of(alloc, Leaf::parts_of(alloc, items)?)
+    }
+
+    fn len(&self) -> usize {
+        self.count
+    }
+
+    fn piece(&self, at: usize) -> &[Shared<T>] {
+        piece_of(self.leaves.as_slice(), at)
+    }
+
+    fn replaced(
+        &self,
+        alloc: Global,
+        at: usize,
+        count: usize,
+        value: Option<Shared<T>>,
+    ) -> Result<Vec<Self>, NoMemory>
+        requires few { count ≤ 1 }
+        requires within { at + count ≤ length self.now }
+        ensures { IfOk result (λ parts. elements_of parts.items ≡ elements.replaced at count (option_to_list value) self.now) }
+    {
+        let leaves = parts_replaced(alloc, self.leaves.as_slice(), at, count, value)?;
+        branches_of(alloc, leaves)
+    }
 }

@@ -2,9 +2,8 @@
 ghost use Rattle.std.specs.Prelude.{◌≡◌, ℕ, List, ◌<◌, ◌*◌, ◌⊎◌, ◌&&◌, bytes_eq, IfOk, IfSome, OnOk, OnErr, None, Some, true, option_copied, is_ok, length, if◌then◌else◌};
 ghost use Rattle.gw_shared.specs.model.Buckets as rules;
 
-use crate::branch_list::BranchList;
 use crate::bucket::{find_in, without};
-use crate::buckets::{Buckets, are_empty, bucket_of, spread, with_bucket};
+use crate::buckets::Buckets;
 use crate::hash::hash_of;
 use crate::slot::Slot;
 use gw_text::NoMemory;
@@ -47,7 +46,7 @@ impl<V: Drop> SharedMap<V> {
         ensures { (key : List ℕ) → rules.value_at result key ≡ None }
     {
         SharedMap {
-            buckets: BranchList::new(alloc),
+            buckets: Buckets::new(alloc),
             count: 0,
         }
     }
@@ -58,17 +57,17 @@ impl<V: Drop> SharedMap<V> {
         ensures { option_copied result ≡ rules.value_at self.now key.now }
     {
         let hash = hash_of(key);
-        find_in(bucket_of(&self.buckets, hash), hash, key)
+        find_in(self.buckets.bucket_of(hash), hash, key)
     }
 
     /// Whether nothing is in it.
     pub fn is_empty(&self) -> bool
         ensures { result ≡ true → (key : List ℕ) → rules.value_at self.now key ≡ None }
     {
-        are_empty(&self.buckets)
+        self.buckets.are_empty()
     }
 
-    /// A copy, which shares all buckets: it takes a handle on each leaf of their list.
+    /// A copy, which shares all buckets: it takes a handle on each of their groups.
     pub fn share(&self, alloc: Global) -> Result<Self, NoMemory>
         ensures { IfOk result (λ copy. copy ≡ self.now) }
     {
@@ -89,7 +88,7 @@ impl<V: Drop> SharedMap<V> {
         let Some(number) = more_buckets(self.buckets.len()) else {
             return Err(NoMemory);
         };
-        self.buckets = spread(alloc, &self.buckets, number)?;
+        self.buckets = self.buckets.spread(alloc, number)?;
         Ok(())
     }
 
@@ -99,9 +98,9 @@ impl<V: Drop> SharedMap<V> {
         ensures set { OnOk result (self.new ≡ rules.with_bucket hash slots.items self.old) }
         ensures kept { OnErr result (self.new ≡ self.old) }
     {
-        let before = bucket_of(&self.buckets, hash).len();
+        let before = self.buckets.bucket_of(hash).len();
         let now = slots.len();
-        self.buckets = with_bucket(alloc, &self.buckets, hash, slots)?;
+        self.buckets = self.buckets.with_bucket(alloc, hash, slots)?;
         self.count = self.count.saturating_sub(before).saturating_add(now);
         Ok(())
     }
@@ -113,7 +112,7 @@ impl<V: Drop> SharedMap<V> {
         let hash = hash_of(key);
         let slot = Slot::new(alloc, hash, key, value)?;
         self.make_room(alloc)?;
-        let mut slots = without(alloc, bucket_of(&self.buckets, hash), hash, key)?;
+        let mut slots = without(alloc, self.buckets.bucket_of(hash), hash, key)?;
         slots.push(slot)?;
         self.set(alloc, hash, slots)
     }
@@ -126,7 +125,7 @@ impl<V: Drop> SharedMap<V> {
             return Ok(());
         }
         let hash = hash_of(key);
-        let slots = without(alloc, bucket_of(&self.buckets, hash), hash, key)?;
+        let slots = without(alloc, self.buckets.bucket_of(hash), hash, key)?;
         self.set(alloc, hash, slots)
     }
 }

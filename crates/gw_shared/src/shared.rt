@@ -1,6 +1,7 @@
 //! Handles.
 ghost use Rattle.std.specs.Prelude.{◌≡◌, IfOk};
 
+use crate::handle::Handle;
 use gw_text::NoMemory;
 use std::alloc::Global;
 use std::marker::Model;
@@ -48,5 +49,11 @@ impl<T: Drop> Deref for Shared<T> {
 
     fn deref(&self) -> &T {
         &self.value
+    }
+}
+
+impl<T: Drop> Handle for Shared<T> {
+    fn one_more(&self) -> Result<Self, NoMemory> {
+        self.share()
     }
 }

@@ -80,21 +80,33 @@ fn expect_same(alloc: Global, both: &Both, turn: u32) -> Result<(), Fail> {
     Ok(())
 }
 
-#[test]
-fn has_what_a_plain_list_has(rt: HostRuntime) -> Result<(), Fail> {
-    let alloc = rt.alloc();
+// Both after so many changes, where each time both were seen to have the same.
+fn expect_changes(alloc: Global, first: Both, turns: u32) -> Result<(), Fail> {
     let mut drawn = 7;
-    let mut both = Both {
-        shared: SharedList::new(alloc),
-        plain: Vec::new(alloc),
-    };
-    for turn in 0..TURNS {
+    let mut both = first;
+    for turn in 0..turns {
         drawn = next_drawn(drawn);
         let next = changed(alloc, &both, turn, drawn)?;
         expect_same(alloc, &both, turn)?;
         both = next;
     }
-    expect_same(alloc, &both, TURNS)
+    expect_same(alloc, &both, turns)
+}
+
+#[test]
+fn has_what_a_plain_list_has(rt: HostRuntime) -> Result<(), Fail> {
+    let alloc = rt.alloc();
+    let both = Both {
+        shared: SharedList::new(alloc),
+        plain: Vec::new(alloc),
+    };
+    expect_changes(alloc, both, TURNS)
+}
+
+#[test]
+fn a_list_whose_branches_grow_has_what_a_plain_one_has(rt: HostRuntime) -> Result<(), Fail> {
+    let alloc = rt.alloc();
+    expect_changes(alloc, both_of(alloc, 1_000)?, TURNS / 3)
 }
 
 #[test]
@@ -126,7 +138,7 @@ fn both_of(alloc: Global, number: u32) -> Result<Both, NoMemory> {
 #[test]
 fn a_list_of_many_is_as_the_plain_one(rt: HostRuntime) -> Result<(), Fail> {
     let alloc = rt.alloc();
-    for number in [0, 1, 127, 128, 129, 300] {
+    for number in [0, 1, 31, 32, 33, 1_024, 1_025, 3_000] {
         let both = both_of(alloc, number)?;
         expect_same(alloc, &both, number)?;
     }
@@ -145,8 +157,8 @@ fn pieces_end_where_leaves_do(rt: HostRuntime) -> Result<(), Fail> {
     let alloc = rt.alloc();
     let both = both_of(alloc, 300)?;
     let list = &both.shared;
-    assert!(rt; piece_at(list, 0) == Some((0, 128)) && piece_at(list, 127) == Some((127, 1)));
-    assert!(rt; piece_at(list, 128) == Some((128, 128)) && piece_at(list, 140) == Some((140, 116)));
-    assert!(rt; piece_at(list, 256) == Some((256, 44)) && piece_at(list, 300).is_none());
+    assert!(rt; piece_at(list, 0) == Some((0, 30)) && piece_at(list, 29) == Some((29, 1)));
+    assert!(rt; piece_at(list, 30) == Some((30, 30)) && piece_at(list, 45) == Some((45, 15)));
+    assert!(rt; piece_at(list, 270) == Some((270, 30)) && piece_at(list, 300).is_none());
     Ok(())
 }

@@ -1,10 +1,10 @@
 -- Which rows a request fits. Source: HTTPRouteMatch, HTTPHeaderMatch and HTTPQueryParamMatch of the Gateway API reference.
-use Rattle.std.specs.Prelude.{ℕ, List, [], ◌∷◌, Bool, true, false, not, ◌&&◌, ◌==◌, bytes_eq, map, find, Option, Some, None, option_map}
-use Rattle.std.specs.List.{list_all, join_with_byte, before_first, after_first, slice_split}
+use Rattle.std.specs.Prelude.{ℕ, List, [], ◌∷◌, Bool, true, false, not, ◌&&◌, bytes_eq, find, Option, option_map}
+use Rattle.std.specs.List.{list_all, join_with_byte}
 use Rattle.std.specs.Option.{option_map_or}
-use Rattle.percent_encoding.specs.Percent.{percent_decode}
 use Rattle.gw_frames.specs.model.Requests.{Request}
 use Rattle.gw_messages.specs.model.Values.{has_field, values_of}
+use Rattle.gw_query.specs.model.Parameters.{Parameter, first_value, parameters_of}
 use Rattle.gw_rows.specs.declared.fitting.Test.{Test}
 use Rattle.gw_rows.specs.declared.fitting.Test.TheVariants as tests
 use Rattle.gw_rows.specs.model.Rows.{Row, first_of_each}
@@ -49,29 +49,10 @@ counted_headers headers = first_of_each same_header headers
 abbrev pub headers_fit : List HeaderMatch → List Field → Bool
 headers_fit headers fields = list_all (header_fits fields) (counted_headers headers)
 
--- A parameter of a query: its name and value, in which each `%` with two hexadecimal digits stands for the byte of that number, and
--- `+` for itself. Source: HTTPQueryParamMatch; RFC 3986 section 2.1.
-pub record Parameter : Type 0 where
-  pub name : List ℕ
-  pub value : List ℕ
-
--- The part of a query between two `&`, cut at its first `=`; a part without one has the empty value.
-abbrev pub parameter_of : List ℕ → Parameter
-parameter_of part = record {
-  name = percent_decode (before_first (λ b. b == 61) part);
-  value = percent_decode (after_first (λ b. b == 61) part);
-}
-
--- The parameters of a query; without a query there are none.
-abbrev pub parameters_of : Option (List ℕ) → List Parameter
-parameters_of None = []
-parameters_of (Some query) = map parameter_of (slice_split (λ b. b == 38) query)
-
 -- The first parameter of the name is there, and its value fits: implementations "are recommended to match against the first value of
 -- the param". Source: HTTPQueryParamMatch, name.
 abbrev pub query_param_fits : List Parameter → QueryParamMatch → Bool
-query_param_fits parameters q =
-    option_map_or (λ p. value_fits q.sort q.value p.value) (find (λ p. bytes_eq p.name q.name) parameters) false
+query_param_fits parameters q = option_map_or (value_fits q.sort q.value) (first_value q.name parameters) false
 
 -- Two matches are of one parameter.
 abbrev pub same_query_param : QueryParamMatch → QueryParamMatch → Bool

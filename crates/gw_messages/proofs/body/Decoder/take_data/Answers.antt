@@ -47,7 +47,7 @@ pub returns-clause-taken : goal.returns-clause-taken
 returns-clause-taken c = λ _ next body comes.
     let d = c.args.self.now in
     let bytes = c.args.buffer.now in
-    let after = c.advance.new.self in
+    let after = c.skip.new.self in
     let count = c.args.size + 2 in
     let seen = take (d.limits.encoded + 1 - d.taken) bytes in
     let seen_is = c.first-seen.ensures ∙ ap (take (d.limits.encoded + 1 - d.taken)) c.bytes.ensures in
@@ -59,7 +59,7 @@ returns-clause-taken c = λ _ next body comes.
     let left : d.limits.content - length c.extend_from_slice.new.self.items ≡ d.limits.content - length d.content.items - c.args.size =
     omega (arith, enough, ap length items, length-append d.content.items piece, ap length piece_is, length-take c.args.size seen) in
     let leads = data_leads (d.limits.content - length d.content.items) (d.limits.content - length c.extend_from_slice.new.self.items) d.limits.encoded d.taken c.args.size count d.content.items piece bytes after next comes.0 body
-    d.few refl left c.advance.ensures piece_is is_data comes.1
+    d.few refl left c.skip.ensures piece_is is_data comes.1
     (comes.2 ∙ ap (λ (content : List ℕ). within_after d.limits.encoded (d.taken + count) (after ++ next) (behind content comes.0)) items) in (
       behind piece comes.0,
       subst (λ (t : Stage). IsRest t (d.limits.content - length d.content.items) (take (d.limits.encoded + 1 - d.taken) (bytes ++ next)) (behind piece comes.0)) (sym c.requires) leads.0,

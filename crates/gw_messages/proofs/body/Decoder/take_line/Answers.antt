@@ -40,11 +40,11 @@ pub returns-clause-taken : goal.returns-clause-taken
 returns-clause-taken c = λ _ next body comes.
     let d = c.args.self.now in
     let bytes = c.args.buffer.now in
-    let after = c.advance.new.self in
+    let after = c.skip.new.self in
     let size = c.in-Whole.size in
     let count = c.in-Whole.length in
     let room = d.limits.content - length d.content.items in
-    let taken : after ≡ drop count bytes = c.advance.ensures ∙ ap (drop count) c.read_line.ensures.same in
+    let taken : after ≡ drop count bytes = c.skip.ensures ∙ ap (drop count) c.read_line.ensures.same in
     let leads = line_leads room d.limits.encoded d.taken count size d.content.items bytes after next comes.0 body d.few c.in-Whole.ensures.within.1 taken c.in-Whole.ensures.line
     (subst (λ (t : Stage). IsRest t room (take (d.limits.encoded + 1 - (d.taken + count)) (after ++ next)) comes.0) c.behind_line-self.ensures comes.1) comes.2 in (
       comes.0,
@@ -56,4 +56,4 @@ pub returns-clause-smaller : goal.returns-clause-smaller
 returns-clause-smaller c = λ _.
     let most = c.args.self.now.limits.encoded + 1 - c.args.self.now.taken in
     let within = c.in-Whole.ensures.within in
-    fewer c.in-Whole.length most c.args.buffer.now c.advance.new.self within.0 (omega (arith, within.0, within.1)) (c.advance.ensures ∙ ap (drop c.in-Whole.length) c.read_line.ensures.same)
+    fewer c.in-Whole.length most c.args.buffer.now c.skip.new.self within.0 (omega (arith, within.0, within.1)) (c.skip.ensures ∙ ap (drop c.in-Whole.length) c.read_line.ensures.same)

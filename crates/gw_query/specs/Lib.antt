@@ -1,0 +1,5 @@
+pub mod Cut
+pub mod Parts
+pub mod Sorted
+pub mod Values
+pub mod model

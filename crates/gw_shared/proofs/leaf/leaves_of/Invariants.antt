@@ -1,8 +1,0 @@
--- What is kept so far, and the rest, is all.
-use Rattle.std.proofs.Common.{◌≡◌, ◌++◌}
-use Rattle.std.specs.Vec.Iter.{into_iter_items}
-use Rattle.gw_shared.specs.Sharing.{in_leaves}
-use Rattle.gw_shared.proofs.leaf.leaves_of.Given as goal
-
-abbrev pub invariant-handles : goal.invariant-handles
-invariant-handles g l = (in_leaves l.leaves.items ++ l.growing.items) ++ into_iter_items l.handle-iterator ≡ l.fn.handles.items
