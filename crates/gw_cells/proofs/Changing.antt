@@ -1,20 +1,21 @@
 -- One cell that changes, and all others that stay.
-use Rattle.std.proofs.Common.{◌≡◌, ◌∙◌, refl, sym, ap, subst, ℕ, ◌<◌, ◌≤◌, arith, Bool, true, false, cond, ◌&&◌, List, ◌∷◌, length, get_or, insert, remove, filter, Contains, bytes_eq, true≢false}
-use Rattle.std.proofs.lemmas.List.{get_or_default}
+use Rattle.std.proofs.Common.{◌≡◌, ◌∙◌, refl, sym, ap, subst, ℕ, ◌<◌, ◌≤◌, arith, Bool, true, false, cond, ◌&&◌, List, ◌∷◌, ◌++◌, length, get_or, set, insert, remove, take, drop, suc, filter, Contains, IsPermutation, bytes_eq, true≢false}
+use Rattle.std.proofs.lemmas.List.{drop-set-lt, get_or_default, get_or-set_same, length-set, take-set}
 use Rattle.std.proofs.lemmas.List.Elements.{All-contains, All-filter}
 use Rattle.std.proofs.lemmas.List.Sorted.{Contains-permutation, IsPermutation-cons, IsPermutation-insert, IsPermutation-remove, IsPermutation-sym, IsPermutation-trans}
 use Rattle.std.proofs.lemmas.Slice.Eq.{bytes_eq-Decides}
 use Rattle.std.specs.Cmp.{first_so, second_so}
 use Rattle.std.specs.List.Sorted.{IsPartitionPoint}
+use Rattle.std.specs.Ordering.{ordering_reverse}
 use Rattle.std.specs.declared.cmp.Ordering.TheVariants.{Equal}
 use Rattle.gw_rows.proofs.Ordered.{is_total}
 use Rattle.gw_rows.specs.model.Precedence.{AreOneRow, precedence}
 use Rattle.gw_rows.specs.model.Rows.{Row}
-use Rattle.gw_cells.proofs.InOrder.{IsAbove, IsBelow, inserted, not_there, only_one, removed}
+use Rattle.gw_cells.proofs.InOrder.{IsAbove, IsBelow, inserted, none_tied, not_there, only_one, removed, replaced}
 use Rattle.gw_cells.proofs.Permutations.{permutation_behind}
-use Rattle.gw_cells.specs.Changes.{AddsRow, TakesOutRow}
+use Rattle.gw_cells.specs.Changes.{AddsRow, PutsRow, TakesOutRow}
 use Rattle.gw_cells.specs.model.Addresses.{Address, address_of, same_address, same_kind, stands_at}
-use Rattle.gw_cells.specs.model.Order.{IsApartFrom, IsCellOf, IsInOrder}
+use Rattle.gw_cells.specs.model.Order.{IsApartFrom, IsCellOf, IsInOrder, StandsFor}
 
 -- ---- one cell
 
@@ -48,6 +49,35 @@ takes_out_at row cell at within tied = λ rest are.
           (IsPermutation-trans (row ∷ rest) cell (row ∷ remove cell at) are.all (IsPermutation-remove cell at row within same));
       ordered = removed precedence is_total cell at are.ordered;
     }
+
+-- A row that is put over one that precedence doesn't tell from it.
+pub puts_over : (row : Row) (cell : List Row) (at : ℕ) → at < length cell → precedence (get_or cell at row) row ≡ Equal → PutsRow row cell (set cell at row)
+puts_over row cell at within tied = λ former rest one are.
+    let turned : precedence row former ≡ Equal = is_total.antisymm row former ∙ ap ordering_reverse one in
+    let both : precedence (get_or cell at former) former ≡ Equal =
+    ap (λ (z : Row). precedence z former) (get_or_default cell at former row within) ∙ is_total.congr (get_or cell at row) row former tied ∙ turned in
+    let same : former ≡ get_or cell at former = only_one precedence is_total former cell at are.ordered (there_in former rest cell are) within both in
+    let others : remove (set cell at row) at ≡ remove cell at =
+    ap (λ (l : List Row). l ++ drop (suc at) (set cell at row)) (take-set cell at row)
+    ∙ ap (λ (l : List Row). take at cell ++ l) (drop-set-lt (suc at) cell at row (omega arith)) in
+    let left : IsPermutation (set cell at row) (row ∷ remove cell at) =
+    subst (λ (l : List Row). IsPermutation (set cell at row) (row ∷ l)) others
+    (IsPermutation-remove (set cell at row) at row (omega (arith, length-set cell at row)) (sym (get_or-set_same cell at row row within))) in
+    let behind : IsPermutation rest (remove cell at) =
+    permutation_behind former rest (remove cell at)
+    (IsPermutation-trans (former ∷ rest) cell (former ∷ remove cell at) are.all (IsPermutation-remove cell at former within same)) in
+    record {
+      all = IsPermutation-trans (row ∷ rest) (row ∷ remove cell at) (set cell at row) (IsPermutation-cons row rest (remove cell at) behind)
+          (IsPermutation-sym (set cell at row) (row ∷ remove cell at) left);
+      ordered = replaced precedence is_total row cell at are.ordered within tied;
+    }
+
+-- Where all stand before a row or behind it, there is none that precedence doesn't tell from it.
+pub puts_over_none : (row : Row) (cell new : List Row) (at : ℕ)
+    → ((rows : List Row) → IsInOrder rows cell → IsPartitionPoint (IsBelow precedence is_total row) (IsAbove precedence is_total row) cell at)
+    → PutsRow row cell new
+puts_over_none row cell new at sides = λ former rest one are.
+    absurd (none_tied precedence is_total row former cell at one (sides (former ∷ rest) are) (there_in former rest cell are))
 
 -- A row that has no place isn't there.
 pub is_missing : (row : Row) (cell : List Row) (at : ℕ)
@@ -138,6 +168,30 @@ module _ (row : Row) (old new : Address → List Row) (before after : Bool → L
           let elsewhere : stands_at a row ≡ false = sym (stands a) ∙ e in
           let still : IsInOrder (filter (stands_at a) rows) (new a) =
           subst (IsInOrder (filter (stands_at a) rows)) (sym (others_stay own old new before after so a e)) (are a) in
+          rw elsewhere still
+
+  pub all_put : PutsRow row (before own.place.is_exact) (after own.place.is_exact)
+      → (former : Row) (rest : List Row) → StandsFor row former → ((a : Address) → IsCellOf (former ∷ rest) a (old a)) → (a : Address) → IsCellOf (row ∷ rest) a (new a)
+  all_put puts former rest stands_for are a = by (same_address a own) refl (are a)
+    where
+      also : stands_at a former ≡ stands_at a row
+      also = ap (same_address a) (sym stands_for.address)
+
+      by : (b : Bool) → same_address a own ≡ b → IsCellOf (former ∷ rest) a (old a) → IsCellOf (row ∷ rest) a (new a)
+      by true e is =
+          let at_own : stands_at a row ≡ true = sym (stands a) ∙ e in
+          let was : before own.place.is_exact ≡ old a = so.copied own.place.is_exact ∙ ap old (sym (here a e)) in
+          let now : after own.place.is_exact ≡ new a = sym (own_now own old new before after so) ∙ ap new (sym (here a e)) in
+          let whole : IsInOrder (former ∷ filter (stands_at a) rest) (old a) = rw (also ∙ at_own) at is in
+          let put : IsInOrder (row ∷ filter (stands_at a) rest) (new a) =
+          subst (IsInOrder (row ∷ filter (stands_at a) rest)) now
+          (puts former (filter (stands_at a) rest) stands_for.tied (subst (IsInOrder (former ∷ filter (stands_at a) rest)) (sym was) whole)) in
+          rw at_own put
+      by false e is =
+          let elsewhere : stands_at a row ≡ false = sym (stands a) ∙ e in
+          let whole : IsInOrder (filter (stands_at a) rest) (old a) = rw (also ∙ elsewhere) at is in
+          let still : IsInOrder (filter (stands_at a) rest) (new a) =
+          subst (IsInOrder (filter (stands_at a) rest)) (sym (others_stay own old new before after so a e)) whole in
           rw elsewhere still
 
   pub all_take_out : TakesOutRow row (before own.place.is_exact) (after own.place.is_exact)

@@ -1,9 +1,9 @@
 -- Lists in which each element stands before those behind it.
-use Rattle.std.proofs.Common.{◌≡◌, ◌∙◌, refl, sym, ap, subst, ℕ, zero, suc, ◌+◌, ◌<◌, ◌≤◌, arith, Bool, true, false, not, cond, ◌⊎◌, inl, inr, List, [], ◌∷◌, length, get_or, insert, remove, take, drop, filter, find, Option, Some, None, All, Contains, IsPermutation, true≢false, zero-le}
+use Rattle.std.proofs.Common.{◌≡◌, ◌∙◌, refl, sym, ap, subst, ℕ, zero, suc, ◌+◌, ◌<◌, ◌≤◌, arith, Bool, true, false, not, cond, ◌⊎◌, inl, inr, List, [], ◌∷◌, length, get_or, set, insert, remove, take, drop, filter, find, Option, Some, None, All, Contains, IsPermutation, true≢false, zero-le}
 use Rattle.std.proofs.lemmas.Bool.{cases_eq, cases_lt}
 use Rattle.std.proofs.lemmas.Cmp.{tied_itself}
 use Rattle.std.proofs.lemmas.List.{get_or_default}
-use Rattle.std.proofs.lemmas.List.Elements.{All-append, All-cons, All-drop, All-from_recursion, All-head, All-nil, All-take, recursion_from_All}
+use Rattle.std.proofs.lemmas.List.Elements.{All-append, All-cons, All-drop, All-from_recursion, All-head, All-nil, All-set, All-take, All-weaker, recursion_from_All}
 use Rattle.std.proofs.lemmas.List.Kept.{IsStrictlySortedBy-filter}
 use Rattle.std.proofs.lemmas.List.Sorted.{All-permutation, IsPermutation-sym, length_permutation, list_any-IsPermutation}
 use Rattle.std.proofs.lemmas.Map.Keys.{Less-from_sorted}
@@ -119,16 +119,39 @@ module _ {T : Type 0} (order : T → T → Ordering) (total : IsTotalOrder order
               ap (λ (z : T). order z (get_or items i x)) (sym at_k.2) ∙ Less-from_sorted order items at_k.0 i x sorted (omega arith) within in
               absurd (greater-equal (order (get_or items i x) x) (turned_less x (get_or items i x) less) tied)
 
-  -- Where all are below or above, it isn't there.
-  pub not_there : (x : T) (items : List T) (i : ℕ) → IsPartitionPoint (IsBelow x) (IsAbove x) items i → Contains items x → ⊥
-  not_there x items i sides at_k = by (cases_lt at_k.0 i)
+  -- In place of one of them, one that the order doesn't tell from it stands in order.
+  pub replaced : (x : T) (items : List T) (i : ℕ) → IsStrictlySortedBy order items → i < length items → order (get_or items i x) x ≡ Equal
+      → IsStrictlySortedBy order (set items i x)
+  unfolding IsStrictlySortedBy
+  replaced x [] i sorted within tied = absurd (omega arith)
+  replaced x (y ∷ items) zero sorted within tied =
+      let all = All-from_recursion (λ z. order y z ≡ Less) items sorted.0 in (
+        recursion_from_All (λ z. order x z ≡ Less) items
+            (All-weaker (λ z. order y z ≡ Less) (λ z. order x z ≡ Less) (λ z less. sym (total.congr y x z tied) ∙ less) items all),
+        sorted.1,
+      )
+  replaced x (y ∷ items) (suc i) sorted within tied =
+      let all = All-from_recursion (λ z. order y z ≡ Less) items sorted.0 in
+      let behind : order (get_or items i x) y ≡ Greater = turned_less y (get_or items i x) (all i x (omega arith)) in
+      let first : order y x ≡ Less = turned_greater x y (sym (total.congr (get_or items i x) x y tied) ∙ behind) in (
+        recursion_from_All (λ z. order y z ≡ Less) (set items i x) (All-set (λ z. order y z ≡ Less) items i x first all),
+        replaced x items i sorted.1 (omega arith) tied,
+      )
+
+  -- Where all are below or above, none is there that the order doesn't tell from it.
+  pub none_tied : (x y : T) (items : List T) (i : ℕ) → order y x ≡ Equal → IsPartitionPoint (IsBelow x) (IsAbove x) items i → Contains items y → ⊥
+  none_tied x y items i tied sides at_k = by (cases_lt at_k.0 i)
     where
-      itself : order (get_or items at_k.0 x) x ≡ Equal
-      itself = ap (λ (z : T). order z x) at_k.2 ∙ tied_itself total x
+      same : order (get_or items at_k.0 y) x ≡ Equal
+      same = ap (λ (z : T). order z x) at_k.2 ∙ tied
 
       by : (at_k.0 < i) ⊎ (i ≤ at_k.0) → ⊥
-      by (inl before) = less-equal (order (get_or items at_k.0 x) x) (sides.0 at_k.0 x zero-le before) itself
-      by (inr behind) = greater-equal (order (get_or items at_k.0 x) x) (sides.1 at_k.0 x behind at_k.1) itself
+      by (inl before) = less-equal (order (get_or items at_k.0 y) x) (sides.0 at_k.0 y zero-le before) same
+      by (inr behind) = greater-equal (order (get_or items at_k.0 y) x) (sides.1 at_k.0 y behind at_k.1) same
+
+  -- So it isn't there itself.
+  pub not_there : (x : T) (items : List T) (i : ℕ) → IsPartitionPoint (IsBelow x) (IsAbove x) items i → Contains items x → ⊥
+  not_there x items i sides at_k = none_tied x x items i (tied_itself total x) sides at_k
 
   -- ---- the foremost
 

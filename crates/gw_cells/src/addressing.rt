@@ -40,7 +40,8 @@ fn without_slash(value: &[u8]) -> &[u8]
     }
 }
 
-fn is_exact(sort: &PathMatchType) -> bool
+/// Whether a path is asked for exactly.
+pub(crate) fn is_exact(sort: &PathMatchType) -> bool
     ensures { result ≡ order.is_exact_type sort.now }
 {
     match sort {

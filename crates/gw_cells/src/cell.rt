@@ -1,6 +1,6 @@
 ghost use Rattle.std.specs.Prelude.{◌≡◌, Bool, [], true, false, IfOk, OnOk, List, ◌∷◌};
 ghost use Rattle.gw_cells.specs.Cells.{in_cell};
-ghost use Rattle.gw_cells.specs.Changes.{AddsRow, TakesOutRow};
+ghost use Rattle.gw_cells.specs.Changes.{AddsRow, PutsRow, TakesOutRow};
 ghost use Rattle.gw_cells.specs.model.Addresses.{same_kind};
 ghost use Rattle.gw_cells.specs.model.Order.{IsInOrder};
 ghost use Rattle.gw_rows.specs.model.Rows.{Row as Plain};
@@ -46,9 +46,10 @@ impl Cell {
         self.exact.is_empty() && self.prefix.is_empty()
     }
 
-    /// Adds a row.
+    /// Adds a row; one that precedence doesn't tell from it gives way.
     pub(crate) fn add(&mut self, is_exact: bool, row: &Shared<Row>) -> Result<(), NoMemory>
         ensures added { OnOk result (AddsRow row.now (in_cell self.old is_exact) (in_cell self.new is_exact)) }
+        ensures put { OnOk result (PutsRow row.now (in_cell self.old is_exact) (in_cell self.new is_exact)) }
         ensures others { (other : Bool) → same_kind other is_exact ≡ false → in_cell self.new other ≡ in_cell self.old other }
     {
         if is_exact {

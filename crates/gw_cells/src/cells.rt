@@ -1,6 +1,6 @@
 //! The cells of a listener.
 ghost use Rattle.std.specs.Prelude.{◌≡◌, ◌+◌, ◌≤◌, ◌∷◌, [], List, AllPairs, IfOk, OnOk, filter, option_copied};
-ghost use Rattle.gw_cells.specs.model.Order.{IsApartFrom};
+ghost use Rattle.gw_cells.specs.model.Order.{IsApartFrom, StandsFor};
 ghost use Rattle.gw_cells.specs.model.Probes.{most_probes};
 ghost use Rattle.gw_rows.specs.model.Fitting.{fits};
 ghost use Rattle.gw_rows.specs.model.Precedence.{AreOneRow, precedence};
@@ -56,9 +56,11 @@ impl Cells {
         })
     }
 
-    /// Adds a row, which none of those that are there is one row with. Where memory is wanted, use them no more.
+    /// Adds a row, which none of those that are there is one row with, or puts it in place of the one for which it stands. Where memory
+    /// is wanted, use them no more.
     pub fn add(&mut self, alloc: Global, row: &Shared<Row>) -> Result<(), NoMemory>
-        ensures { (rows : List Plain) → IsApartFrom rows row.now → AreCellsOf rows self.old → OnOk result (AreCellsOf (row.now ∷ rows) self.new) }
+        ensures added { (rows : List Plain) → IsApartFrom rows row.now → AreCellsOf rows self.old → OnOk result (AreCellsOf (row.now ∷ rows) self.new) }
+        ensures put { (former : Plain) (rest : List Plain) → StandsFor row.now former → AreCellsOf (former ∷ rest) self.old → OnOk result (AreCellsOf (row.now ∷ rest) self.new) }
     {
         let address = address_of(alloc, row)?;
         let mut cell = cell_at(alloc, &self.names, &address)?;

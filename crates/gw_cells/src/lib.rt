@@ -10,6 +10,8 @@ mod find;
 mod laws;
 mod maps;
 mod rows;
+mod standing;
 
 pub use cells::Cells;
 pub use laws::order_is_free;
+pub use standing::{is_same_host, stands_for};

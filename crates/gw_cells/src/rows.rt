@@ -2,7 +2,7 @@
 ghost use Rattle.std.specs.Prelude.{◌≡◌, ◌<◌, ◌≤◌, ◌∷◌, List, false, IfErr, IfOk, OnOk, length, slice_index_or};
 ghost use Rattle.std.specs.List.Sorted.{IsPartitionPoint, IsStrictlySortedBy};
 ghost use Rattle.std.specs.declared.cmp.Ordering.TheVariants.{Less, Equal, Greater};
-ghost use Rattle.gw_cells.specs.Changes.{AddsRow, TakesOutRow};
+ghost use Rattle.gw_cells.specs.Changes.{AddsRow, PutsRow, TakesOutRow};
 ghost use Rattle.gw_cells.specs.model.Order.{IsInOrder};
 ghost use Rattle.gw_rows.specs.model.Precedence as rules;
 ghost use Rattle.gw_rows.specs.model.Rows.{Row as Plain};
@@ -46,9 +46,10 @@ fn place_in(cell: &[Shared<Row>], row: &Row) -> Result<usize, usize>
     Err(low)
 }
 
-/// Adds a row; one that is one row with it gives way.
+/// Adds a row; one that precedence doesn't tell from it gives way.
 pub(crate) fn add_row(cell: &mut Vec<Shared<Row>>, row: &Shared<Row>) -> Result<(), NoMemory>
-    ensures { OnOk result (AddsRow row.now cell.old.items cell.new.items) }
+    ensures added { OnOk result (AddsRow row.now cell.old.items cell.new.items) }
+    ensures put { OnOk result (PutsRow row.now cell.old.items cell.new.items) }
 {
     let row = row.share()?;
     match place_in(cell.as_slice(), &row) {

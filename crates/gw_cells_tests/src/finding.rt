@@ -3,7 +3,7 @@
 ghost use Rattle.std.specs.Prelude.{◌≡◌, ◌+◌, ◌<◌, ◌≤◌, codes};
 
 use crate::fixtures::{asked, path, plain_row};
-use gw_cells::Cells;
+use gw_cells::{Cells, stands_for};
 use gw_frames::Request;
 use gw_message_rows::column;
 use gw_rows::{Row, better, fits};
@@ -79,6 +79,56 @@ const REQUESTS: &[(&str, &str, &str)] = &[
     ("t.example.com", "/rule/x", "first-rule"),
     ("t.example.com", "/match", "first-match"),
     ("t.example.com", "/host", "first-host"),
+];
+
+/// Two rows of one Route, and whether the first one is put where the second stands.
+const PAIRS: &[(&str, &str, bool)] = &[
+    (
+        "new|a.example.com|/abc||d/r|0000",
+        "old|a.example.com|/abc||d/r|0000",
+        true,
+    ),
+    ("new||/abc|GET|d/r|0312", "old||/abc|PUT|d/r|0312", true),
+    (
+        "new||/abc||d/r|0312",
+        "old|a.example.com|/abc||d/r|0312",
+        false,
+    ),
+    (
+        "new|b.example.com|/abc||d/r|0000",
+        "old|a.example.com|/abc||d/r|0000",
+        false,
+    ),
+    (
+        "new|*.example.com|/abc||d/r|0000",
+        "old|example.com|/abc||d/r|0000",
+        false,
+    ),
+    (
+        "new|a.example.com|/abd||d/r|0000",
+        "old|a.example.com|/abc||d/r|0000",
+        false,
+    ),
+    (
+        "new|a.example.com|=/abc||d/r|0000",
+        "old|a.example.com|/abc||d/r|0000",
+        false,
+    ),
+    (
+        "new|a.example.com|/abc|GET|d/r|0000",
+        "old|a.example.com|/abc||d/r|0000",
+        false,
+    ),
+    (
+        "new|a.example.com|/abc||d/r|1000",
+        "old|a.example.com|/abc||d/r|0000",
+        false,
+    ),
+    (
+        "new|a.example.com|/abc||d/r|0100",
+        "old|a.example.com|/abc||d/r|0000",
+        false,
+    ),
 ];
 
 /// In how many turns rows are added or taken out: enough that all are.
@@ -312,5 +362,24 @@ fn finds_what_a_scan_finds(rt: HostRuntime) -> Result<(), Fail> {
     for seed in 0..6 {
         trial.run(rt.alloc(), seed)?;
     }
+    Ok(())
+}
+
+#[test]
+fn a_row_is_put_where_one_stands(rt: HostRuntime) -> Result<(), Fail> {
+    let alloc = rt.alloc();
+    for (new, old, stands) in PAIRS {
+        let new = written_row(alloc, new)?;
+        let old = written_row(alloc, old)?;
+        assert!(rt; stands_for(&new, &old) == *stands);
+    }
+    let old = written_row(alloc, "old|a.example.com|/abc||d/r|0000")?;
+    let new = written_row(alloc, "new|a.example.com|/abc||d/r|0000")?;
+    let mut cells = Cells::of(alloc, &[old.share()?])?;
+    cells.add(alloc, &new)?;
+    let request = asked(alloc, "a.example.com", "/abc")?;
+    assert!(rt; name_of(found(&cells, &request)) == b"new".as_slice());
+    cells.take_out(alloc, &new)?;
+    assert!(rt; found(&cells, &request).is_none());
     Ok(())
 }

@@ -5,23 +5,14 @@ ghost use Rattle.gw_rows.specs.model.Rows.{ServedListener as PlainListener};
 
 use crate::door::HeldDoor;
 use crate::listener::table_of;
+use gw_cells::is_same_host;
 use gw_eval::{KeptRoute, served_listeners};
 use gw_match::ListenerTable;
 use gw_rows::ServedListener;
 use gw_shared::{Shared, SharedList};
 use gw_store::World;
-use gw_text::{Door, Doors, Host, NoMemory, Text};
+use gw_text::{Door, Doors, NoMemory, Text};
 use std::alloc::Global;
-
-fn is_same_host(a: &Option<Host>, b: &Option<Host>) -> bool
-    ensures { result ≡ true → a.now ≡ b.now }
-{
-    match (a, b) {
-        (Some(a), Some(b)) => a.wild == b.wild && a.text == b.text,
-        (None, None) => true,
-        _ => false,
-    }
-}
 
 fn is_same(a: &ServedListener, b: &ServedListener) -> bool
     ensures { result ≡ true → a.now ≡ b.now }

@@ -1,17 +1,18 @@
 -- What the cells of a listener are of, while the rows of one Route change.
-use Rattle.std.proofs.Common.{◌≡◌, ◌∙◌, refl, sym, ap, subst, ℕ, zero, suc, ◌+◌, ◌<◌, List, [], ◌∷◌, ◌++◌, length, get_or, take, drop, All, IsPermutation, append_assoc, append-nil, add-one, drop-cons, None}
+use Rattle.std.proofs.Common.{◌≡◌, ◌∙◌, refl, sym, ap, subst, ℕ, zero, suc, ◌+◌, ◌<◌, arith, List, [], ◌∷◌, ◌++◌, length, get_or, take, drop, All, IsPermutation, append_assoc, append-nil, add-one, drop-cons, None}
 use Rattle.std.proofs.lemmas.Grind.{flat_map-append}
-use Rattle.std.proofs.lemmas.List.{take-append-drop, take_more}
+use Rattle.std.proofs.lemmas.List.{get_or_default, take-append-drop, take_more}
 use Rattle.std.proofs.lemmas.List.Elements.{All-append, All-weaker}
 use Rattle.std.proofs.lemmas.List.Sorted.{IsPermutation-append_comm, IsPermutation-append_left}
 use Rattle.std.specs.List.{slice_get}
 use Rattle.gw_cells.proofs.Held.{AreCellsOf-permutation}
 use Rattle.gw_cells.specs.Held.{AreCellsOf}
 use Rattle.gw_cells.specs.declared.cells.Cells.{Cells}
-use Rattle.gw_cells.specs.model.Order.{IsApartFrom}
+use Rattle.gw_cells.specs.model.Order.{IsApartFrom, StandsFor}
 use Rattle.gw_rows.specs.model.Precedence.{AreOneRow}
 use Rattle.gw_rows.specs.model.Rows.{Row, ServedListener}
 use Rattle.gw_match.proofs.Pairs.{all_back, all_front, pairs_back, pairs_front, pairs_head, pairs_moved}
+use Rattle.gw_match.specs.Standing.{StandFor}
 use Rattle.gw_match.specs.model.Listed.{AreApart, AreOwnRows, AreRowsOf, Listed, rows_in, with_inserted, with_put, without}
 
 turned : (a b : Row) → ¬ AreOneRow a b → ¬ AreOneRow b a
@@ -55,6 +56,21 @@ module _ (rows : List Row) (i : ℕ) (row : Row) (within : i < length rows) (is 
       all_back (λ r. ¬ AreOneRow row r) later others (all_back (λ r. ¬ AreOneRow row r) (take i rows) (later ++ others) all) in
       All-weaker (λ r. ¬ AreOneRow row r) (λ r. ¬ AreOneRow r row) (λ r other. turned row r other) (take i rows ++ others)
       (All-append (λ r. ¬ AreOneRow row r) (take i rows) others front back)
+
+-- The next has the place of the first of the former ones that are left.
+module _ (rows : List Row) (i : ℕ) (row : Row) (within : i < length rows) (is : row ≡ get_or rows i row) (former others : List Row) (stand : StandFor rows former) where
+  pub next_in_place : (cells new : Cells) → ((f : Row) (rest : List Row) → StandsFor row f → AreCellsOf (f ∷ rest) cells → AreCellsOf (row ∷ rest) new)
+      → AreCellsOf (take i rows ++ (drop i former ++ others)) cells → AreCellsOf (take (i + 1) rows ++ (drop (i + 1) former ++ others)) new
+  next_in_place cells new put are =
+      let f = get_or former i row in
+      let size = stand.size in
+      let low : i < length former = omega arith in
+      let own : f ≡ get_or former i f = get_or_default former i row f low in
+      let left = drop (i + 1) former ++ others in
+      let all : AreCellsOf (take i rows ++ ((f ∷ []) ++ left)) cells =
+      subst (λ (l : List Row). AreCellsOf (take i rows ++ (l ++ others)) cells) (next_is former i f low own) are in
+      let stands : StandsFor row f = subst (λ (r : Row). StandsFor r f) (sym is) (stand.each i row within) in
+      one_more rows i row within is left new (put f (take i rows ++ left) stands (cells_moved (take i rows) (f ∷ []) left cells all))
 
 -- The rows of a Route, put between others.
 module _ (front behind : List (List Row)) (rows : List Row) where

@@ -1,11 +1,12 @@
 //! The cells of a listener, and how they follow a change of the rows of one Route.
-ghost use Rattle.std.specs.Prelude.{◌++◌, List, IfOk, OnOk};
+ghost use Rattle.std.specs.Prelude.{◌≡◌, ◌++◌, List, IfOk, OnOk, true};
 ghost use Rattle.gw_cells.specs.Held.{AreCellsOf};
+ghost use Rattle.gw_match.specs.Standing.{StandFor};
 ghost use Rattle.gw_match.specs.model.Listed.{AreApart, rows_in};
 ghost use Rattle.gw_rows.specs.model.Rows.{Row as Plain};
 
 use crate::route_rows::RouteRows;
-use gw_cells::Cells;
+use gw_cells::{Cells, stands_for};
 use gw_rows::Row;
 use gw_shared::Shared;
 use gw_text::NoMemory;
@@ -20,8 +21,10 @@ fn take_out_all(alloc: Global, cells: &mut Cells, rows: &[Shared<Row>]) -> Resul
     Ok(())
 }
 
+// Adds each row, or puts it in place of the one for which it stands.
 fn add_all(alloc: Global, cells: &mut Cells, rows: &[Shared<Row>]) -> Result<(), NoMemory>
-    ensures { (others : List Plain) → AreApart (rows.now ++ others) → AreCellsOf others cells.old → OnOk result (AreCellsOf (rows.now ++ others) cells.new) }
+    ensures added { (others : List Plain) → AreApart (rows.now ++ others) → AreCellsOf others cells.old → OnOk result (AreCellsOf (rows.now ++ others) cells.new) }
+    ensures put { (former others : List Plain) → StandFor rows.now former → AreCellsOf (former ++ others) cells.old → OnOk result (AreCellsOf (rows.now ++ others) cells.new) }
 {
     'rows: for row in rows {
         cells.add(alloc, row)?;
@@ -41,7 +44,23 @@ pub(crate) fn cells_of(alloc: Global, routes: &[Shared<RouteRows>]) -> Result<Ce
     Ok(cells)
 }
 
-/// The cells with these rows in place of those that a Route had. All other cells are shared.
+// Whether each of these rows has the place of the one of its number.
+fn stand_for(rows: &[Shared<Row>], former: &[Shared<Row>]) -> bool
+    ensures { result ≡ true → StandFor rows.now former.now }
+{
+    if rows.len() != former.len() {
+        return false;
+    }
+    'rows: for at in 0..rows.len() {
+        if !stands_for(&rows[at], &former[at]) {
+            return false;
+        }
+    }
+    true
+}
+
+/// The cells with these rows in place of those that a Route had. All other cells are shared, and a cell is copied once where its row
+/// has the place of a former one.
 pub(crate) fn changed_cells(
     alloc: Global,
     cells: &Cells,
@@ -52,6 +71,10 @@ pub(crate) fn changed_cells(
         → IfOk result (λ changed. AreCellsOf (rows.now ++ others) changed) }
 {
     let mut changed = cells.share(alloc)?;
+    if stand_for(rows, former) {
+        add_all(alloc, &mut changed, rows)?;
+        return Ok(changed);
+    }
     take_out_all(alloc, &mut changed, former)?;
     add_all(alloc, &mut changed, rows)?;
     Ok(changed)

@@ -11,8 +11,10 @@ use std::marker::Model;
 use std::net::{Shutdown, TcpStream};
 use std::time::Duration;
 
-// How many pieces are taken of what a client still sends when its connection ends.
+// How many pieces of how many bytes are taken of what a client still sends when its connection ends.
 const MOST_REST: usize = 64;
+
+const PIECE: usize = 65_536;
 
 // How many milliseconds each of them is waited for.
 const MOST_WAIT: u64 = 250;
@@ -51,14 +53,15 @@ impl TcpLink {
     }
 
     /// Ends the connection in two steps (RFC 9112, section 9.6): nothing more is written, and what the client still sends is taken and
-    /// dropped for a while, 16 seconds at most, since a connection that is closed over unread bytes takes back what was written last.
+    /// dropped for a while, 16 seconds and 4 MiB at most, since a connection that is closed over unread bytes takes back what was written
+    /// last.
     pub(crate) fn end(self) {
         let TcpLink { mut stream, .. } = self;
         let wait = Some(Duration::from_millis(MOST_WAIT));
         if stream.shutdown(Shutdown::Write).is_err() || stream.set_read_timeout(wait).is_err() {
             return;
         }
-        let mut rest = [0; 8192];
+        let mut rest = [0; PIECE];
         'pieces: for _ in 0..MOST_REST {
             match stream.read(&mut rest) {
                 Ok(size) if size > 0 => {}

@@ -16,7 +16,7 @@ routes-preserved c =
     let apart : AreApart (rows ++ so_far) = apart_from_routes_so_far routes i rows c.routes-test.true c.rows-item.is c.requires in
     one_route_more routes i rows c.routes-test.true c.rows-item.is c.add_all.new.cells
     (subst (λ (r : List Row). AreCellsOf (r ++ so_far) c.add_all.new.cells) is
-    (c.in_ok-add_all.ensures so_far (subst (λ (r : List Row). AreApart (r ++ so_far)) (sym is) apart) c.routes.invariant))
+    (c.in_ok-add_all.ensures.added so_far (subst (λ (r : List Row). AreApart (r ++ so_far)) (sym is) apart) c.routes.invariant))
 
 pub returns : goal.returns
 returns c =

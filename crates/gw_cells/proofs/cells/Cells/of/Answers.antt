@@ -11,7 +11,7 @@ rows-preserved c =
     let i = c.rows.row-index in
     let row = c.row-item.result in
     one_more rows i row c.rows-test.true c.row-item.is c.add.new.self
-    (c.in_ok-add.ensures (take i rows) (apart_so_far rows i row c.rows-test.true c.row-item.is c.requires) c.rows.invariant)
+    (c.in_ok-add.ensures.added (take i rows) (apart_so_far rows i row c.rows-test.true c.row-item.is c.requires) c.rows.invariant)
 
 pub returns : goal.returns
 returns c =
