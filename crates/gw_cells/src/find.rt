@@ -6,7 +6,8 @@ ghost use Rattle.gw_cells.specs.model.Choice.{first_found};
 ghost use Rattle.gw_cells.specs.model.Probes as probes;
 ghost use Rattle.gw_query.specs.model.Parameters.{parameters_of};
 
-use crate::maps::{Names, Paths};
+use crate::maps::Names;
+use crate::paths::Paths;
 use gw_frames::Request;
 use gw_query::Parameters;
 use gw_rows::{Row, fits_with};

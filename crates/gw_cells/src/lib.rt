@@ -9,6 +9,7 @@ mod cells;
 mod find;
 mod laws;
 mod maps;
+mod paths;
 mod rows;
 mod standing;
 

@@ -5,14 +5,12 @@ ghost use Rattle.gw_cells.specs.model.Addresses.{Place};
 
 use crate::address::Address;
 use crate::cell::Cell;
+use crate::paths::Paths;
 use gw_shared::SharedMap;
 use gw_text::NoMemory;
 use std::alloc::Global;
 
-/// The cells of one hostname, by path.
-pub(crate) type Paths = SharedMap<Cell>;
-
-/// Those of all hostnames, by name.
+/// The cells of all hostnames, by name.
 pub(crate) type Names = SharedMap<Paths>;
 
 // A copy of the cell of a path, or an empty one.
@@ -42,7 +40,7 @@ fn paths_of(alloc: Global, names: &Names, name: &[u8]) -> Result<Paths, NoMemory
 {
     match names.get(name) {
         Some(paths) => paths.share(alloc),
-        None => Ok(SharedMap::new(alloc)),
+        None => Ok(Paths::new(alloc)),
     }
 }
 

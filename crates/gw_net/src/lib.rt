@@ -1,9 +1,13 @@
 // The real outside: readers and writers, sockets over TCP, threads, the system's clock. They count faults and tell no content of
-// sockets, so nothing is proved of what comes and goes; no peer can hold a call for ever.
+// sockets, so nothing is proved of what comes and goes. No peer can hold a call for ever: it is given up after a time, or never waits.
 #![tactic(auto)]
 
+mod endings;
 mod fault_count;
 mod loop_edge;
+mod mio_link;
+mod mio_ring;
+mod mio_upstream;
 mod pieces;
 mod std_sink;
 mod std_source;
@@ -12,9 +16,14 @@ mod tcp_acceptor;
 mod tcp_link;
 mod tcp_upstream;
 mod thread_crew;
+mod wait_count;
 mod wall_clock;
+mod watch;
 
 pub use loop_edge::LoopEdge;
+pub use mio_link::MioLink;
+pub use mio_ring::MioRing;
+pub use mio_upstream::MioUpstream;
 pub use std_sink::StdSink;
 pub use std_source::StdSource;
 pub use tcp_acceptor::TcpAcceptor;

@@ -2,11 +2,13 @@ ghost use Rattle.std.specs.Prelude.{◌≡◌, None, IfOk, OnOk, vec_len};
 ghost use Rattle.gw_net.specs.Real.{SocketState, UpstreamState, after_call, after_edge_call};
 
 use crate::fault_count::FaultCount;
+use crate::mio_ring::MioRing;
 use crate::streams::address;
 use crate::tcp_acceptor::TcpAcceptor;
 use crate::tcp_upstream::TcpUpstream;
 use gw_edge::{Edge, EdgeFault};
 use gw_link::Failed;
+use gw_polling::PollEdge;
 use gw_text::{NoMemory, Socket};
 use std::alloc::Global;
 use std::io;
@@ -49,7 +51,7 @@ impl<R: Net<Listener = TcpListener, Stream = TcpStream> + Clock + Clone + Drop> 
     }
 }
 
-// The listening socket, with as long a queue as the system allows.
+// The listening socket, with as long a queue as the system allows. Its calls don't wait.
 fn listen<R: Net>(rt: &R, at: Socket) -> io::Result<TcpListener>
     ensures loopback { OnOk result (at.a ≡ 127) }
 {
@@ -57,7 +59,14 @@ fn listen<R: Net>(rt: &R, at: Socket) -> io::Result<TcpListener>
         return Err(io::Error::from(io::ErrorKind::AddrNotAvailable));
     }
     let listener = mio::net::TcpListener::bind(rt, address(at))?;
-    let listener = TcpListener::from(listener);
+    Ok(TcpListener::from(listener))
+}
+
+// The same, but its calls wait.
+fn listen_and_wait<R: Net>(rt: &R, at: Socket) -> io::Result<TcpListener>
+    ensures loopback { OnOk result (at.a ≡ 127) }
+{
+    let listener = listen(rt, at)?;
     listener.set_nonblocking(false)?;
     Ok(listener)
 }
@@ -98,7 +107,7 @@ impl<R: Net<Listener = TcpListener, Stream = TcpStream> + Clock + Clone + Drop> 
         ensures loopback { OnOk result (at.a ≡ 127) }
         ensures counted { self.new.faults ≡ after_edge_call result self.old.faults }
     {
-        match listen(&self.rt, at) {
+        match listen_and_wait(&self.rt, at) {
             Ok(listener) => Ok(acceptors_of(alloc, &self.rt, listener, places)?),
             Err(_) => Err(self.faults.fail().into()),
         }
@@ -111,6 +120,50 @@ impl<R: Net<Listener = TcpListener, Stream = TcpStream> + Clock + Clone + Drop> 
         match self.rt.clone() {
             Ok(theirs) => Ok(TcpUpstream::new(theirs)),
             Err(_) => Err(self.faults.fail()),
+        }
+    }
+}
+
+// So many rings over the socket, each with a handle on it of its own.
+fn rings_of<R: Net + Clock + Clone + Drop>(
+    alloc: Global,
+    rt: &R,
+    listener: TcpListener,
+    places: usize,
+) -> Result<Vec<MioRing<R>>, EdgeFault>
+    ensures { IfOk result (λ rings. vec_len rings ≡ places) }
+{
+    let mut rings = Vec::with_capacity(alloc, places)?;
+    'places: for _place in 0..places {
+        let Ok(own) = listener.try_clone() else {
+            return Err(EdgeFault::Failed);
+        };
+        let own = mio::net::TcpListener::from_std(own);
+        rings.push_reserved(MioRing::new(alloc, rt.clone()?, own)?);
+    }
+    Ok(rings)
+}
+
+impl<R: Net<Listener = TcpListener, Stream = TcpStream> + Clock + Clone + Drop> PollEdge
+    for LoopEdge<R> {
+    type Ring = MioRing<R>;
+
+    fn ring(
+        &mut self,
+        alloc: Global,
+        at: Socket,
+        places: usize,
+    ) -> Result<Vec<MioRing<R>>, EdgeFault>
+        ensures places { IfOk result (λ rings. vec_len rings ≡ places) }
+        ensures loopback { OnOk result (at.a ≡ 127) }
+        ensures counted { self.new.faults ≡ after_edge_call result self.old.faults }
+    {
+        let Ok(listener) = listen(&self.rt, at) else {
+            return Err(self.faults.fail().into());
+        };
+        match rings_of(alloc, &self.rt, listener, places) {
+            Err(EdgeFault::Failed) => Err(self.faults.fail().into()),
+            answer => answer,
         }
     }
 }

@@ -27,3 +27,15 @@ pub(crate) fn prepare_writes(stream: &TcpStream) -> io::Result<()> {
 pub(crate) fn address(at: Socket) -> SocketAddr {
     SocketAddr::V4(SocketAddrV4::new(Ipv4Addr::new(at.a, at.b, at.c, at.d), at.port))
 }
+
+/// A socket as std's sockets tell it. None where it has an address of the other version.
+pub(crate) fn socket_of(address: SocketAddr) -> Option<Socket> {
+    match address {
+        SocketAddr::V4(at) => {
+            let [a, b, c, d] = at.ip().octets();
+            let port = at.port();
+            Some(Socket { a, b, c, d, port })
+        }
+        SocketAddr::V6(_) => None,
+    }
+}

@@ -2,12 +2,13 @@ ghost use Rattle.std.specs.Prelude.{◌≡◌, None, Some, ⊤, IfOk};
 ghost use Rattle.gw_net.specs.Real.{SocketState, after_call};
 
 use crate::fault_count::FaultCount;
+use crate::streams::socket_of;
 use crate::tcp_link::TcpLink;
 use gw_edge::Acceptor;
 use gw_link::Failed;
 use gw_text::Socket;
 use std::marker::Model;
-use std::net::{SocketAddr, TcpListener};
+use std::net::TcpListener;
 use std::rt::Clock;
 use std::sync::Arc;
 use std::thread::sleep;
@@ -48,19 +49,7 @@ impl<R: Clock + Drop> TcpAcceptor<R> {
 
     /// Where it listens: the system chooses a port where 0 was bound. None where the system doesn't tell.
     pub fn socket(&self) -> Option<Socket> {
-        match self.listener.local_addr().ok()? {
-            SocketAddr::V4(at) => {
-                let [a, b, c, d] = at.ip().octets();
-                Some(Socket {
-                    a,
-                    b,
-                    c,
-                    d,
-                    port: at.port(),
-                })
-            }
-            SocketAddr::V6(_) => None,
-        }
+        socket_of(self.listener.local_addr().ok()?)
     }
 
     /// How many calls have failed.

@@ -10,4 +10,6 @@ mod peers;
 #[cfg(test)]
 mod readers;
 #[cfg(test)]
+mod rings;
+#[cfg(test)]
 mod sockets;

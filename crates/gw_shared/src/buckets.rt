@@ -1,5 +1,5 @@
 //! The buckets of a map.
-ghost use Rattle.std.specs.Prelude.{◌≡◌, ◌<◌, ◌==◌, [], IfOk, length};
+ghost use Rattle.std.specs.Prelude.{◌≡◌, ◌<◌, ◌==◌, [], IfOk, OnOk, OnErr, length};
 ghost use Rattle.std.specs.List.{list_all};
 ghost use Rattle.gw_shared.specs.model.Buckets as rules;
 
@@ -7,7 +7,7 @@ use crate::bucket::{Bucket, own};
 use crate::group::{Group, groups_of};
 use crate::shared::Shared;
 use crate::slot::Slot;
-use crate::spliced::{all_handles, handles_with};
+use crate::spliced::all_handles;
 use gw_text::NoMemory;
 use std::alloc::Global;
 use std::marker::Model;
@@ -108,25 +108,24 @@ impl<V: Drop> Buckets<V> {
         })
     }
 
-    /// A copy with these slots in the bucket in which those of a hash stand. It shares all groups but that bucket's.
-    pub(crate) fn with_bucket(
-        &self,
+    /// Puts these slots into the bucket in which those of a hash stand. Only that bucket's group is another one afterwards, and copies keep
+    /// the former.
+    pub(crate) fn put_bucket(
+        &mut self,
         alloc: Global,
         hash: u64,
         slots: Vec<Slot<V>>,
-    ) -> Result<Self, NoMemory>
-        requires { 0 < length self.now }
-        ensures { IfOk result (λ changed. changed ≡ rules.with_bucket hash slots.items self.now) }
+    ) -> Result<(), NoMemory>
+        requires { 0 < length self.old }
+        ensures set { OnOk result (self.new ≡ rules.with_bucket hash slots.items self.old) }
+        ensures kept { OnErr result (self.new ≡ self.old) }
     {
         let bucket = Shared::new(alloc, Bucket::new(slots))?;
         let place = hash as usize % self.count;
         let at = place / self.width;
         let group = self.groups[at].with_bucket(alloc, place % self.width, bucket)?;
-        Ok(Buckets {
-            groups: handles_with(alloc, self.groups.as_slice(), at, group)?,
-            width: self.width,
-            count: self.count,
-        })
+        self.groups[at] = group;
+        Ok(())
     }
 
     // The bucket of one place, where the buckets are so many.

@@ -100,7 +100,7 @@ impl<V: Drop> SharedMap<V> {
     {
         let before = self.buckets.bucket_of(hash).len();
         let now = slots.len();
-        self.buckets = self.buckets.with_bucket(alloc, hash, slots)?;
+        self.buckets.put_bucket(alloc, hash, slots)?;
         self.count = self.count.saturating_sub(before).saturating_add(now);
         Ok(())
     }
