@@ -1,5 +1,5 @@
 -- What a run that writes a script, or runs it, comes to.
-use Rattle.std.proofs.Common.{◌≡◌, ◌∙◌, ◌<◌, ℕ, ℤ, arith, List, Option, Ok, Err, inl, inr, refl, sym, subst}
+use Rattle.std.proofs.Common.{◌≡◌, ◌∙◌, ◌<◌, Bool, ℕ, ℤ, arith, List, Option, Ok, Err, inl, inr, refl, sym, subst}
 use Rattle.gw_command.specs.Faults.{exit_code}
 use Rattle.gw_command.specs.Starts.{IsGeneration, IsStart, Setting, Starts, a_generation, a_service}
 use Rattle.gw_command.specs.Words.{GenerateWords}
@@ -90,13 +90,13 @@ module _ (words : List (List ℕ)) (setting : Setting) (start : Starts words (Ok
   -- who serves writes no script
   pub no_service : (generation : GenerateWords) → setting.task ≡ a_generation generation → SetToServe words → ⊥
   no_service generation task set =
-      let serves : setting.task ≡ a_service set.workers set.conns set.admin = subst (λ (s : Setting). s.task ≡ a_service set.workers set.conns set.admin) (same_setting set.setting set.start) set.task in
-      let same : a_generation generation ≡ a_service set.workers set.conns set.admin = sym task ∙ serves in
+      let serves : setting.task ≡ a_service set.workers set.conns set.admin set.polled = subst (λ (s : Setting). s.task ≡ a_service set.workers set.conns set.admin set.polled) (same_setting set.setting set.start) set.task in
+      let same : a_generation generation ≡ a_service set.workers set.conns set.admin set.polled = sym task ∙ serves in
       cc
 
-  pub serves_instead : (workers : ℕ) (conns : Option ℕ) (admin : Socket) → setting.task ≡ a_service workers conns admin → SetToGenerate words → ⊥
-  serves_instead workers conns admin task set =
-      let same : a_generation set.generation ≡ a_service workers conns admin = sym (task_of set) ∙ task in
+  pub serves_instead : (workers : ℕ) (conns : Option ℕ) (admin : Socket) (polled : Bool) → setting.task ≡ a_service workers conns admin polled → SetToGenerate words → ⊥
+  serves_instead workers conns admin polled task set =
+      let same : a_generation set.generation ≡ a_service workers conns admin polled = sym (task_of set) ∙ task in
       cc
 
   -- nor does another command

@@ -51,7 +51,7 @@ IsOutputOf (an_explanation at q) doors controller input told ending text =
     IsDone (λ refused. IsOutputBy (explanation_results_text doors controller at q) input told text refused) ending
 IsOutputOf (a_replay workers) doors controller input told ending text = IsReplayed doors controller workers input told ending text
 IsOutputOf (a_generation words) doors controller input told ending text = ⊥
-IsOutputOf (a_service workers conns admin) doors controller input told ending text = ⊥
+IsOutputOf (a_service workers conns admin polled) doors controller input told ending text = ⊥
 
 -- The text by a setting, and how it comes to its end.
 abbrev pub IsOutput : Setting → List ℕ → Option (List ℤ) → Ending → List ℕ → Type 0

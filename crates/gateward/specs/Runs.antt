@@ -108,14 +108,15 @@ service_fault serving.Write = WriteFailed
 service_fault serving.Start = NotStarted
 service_fault serving.NoMemory = NoMemory
 
--- The words set it to serve: by so many workers at each door.
+-- The words set it to serve: by so many workers at each door, which poll their connections or not.
 pub record SetToServe (words : List (List ℕ)) : Type 0 where
   pub setting : Setting
   pub workers : ℕ
   pub conns : Option ℕ
   pub admin : Socket
+  pub polled : Bool
   pub start : Starts words (Ok setting)
-  pub task : setting.task ≡ a_service workers conns admin
+  pub task : setting.task ≡ a_service workers conns admin polled
 
 -- How many jobs there are for these words.
 abbrev pub jobs_of : (words : List (List ℕ)) → SetToServe words → ℕ

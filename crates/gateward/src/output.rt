@@ -57,7 +57,7 @@ pub fn output_of<R: Wait, C: Clock>(
             replay_output(rt, alloc, doors, controller, workers, input, clock, snap)
         }
         Task::Generate(_) => unreachable!(),
-        Task::Serve(_, _, _) => unreachable!(),
+        Task::Serve(_, _, _, _) => unreachable!(),
     }
 }
 

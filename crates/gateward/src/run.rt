@@ -11,12 +11,14 @@ ghost use Rattle.gateward.specs.Runs.{EndsAtStart, Finishes, Generates, GivesUp,
 
 use crate::output::{generation_output, output_of};
 use gw_command::{Fault, GenerateWords, Setting, start};
-use gw_edge::{Acceptor, Crew, Edge};
+use gw_edge::{Acceptor, Crew};
 use gw_link::{Clock, Link, ReadFault, Sink, Source, Upstream, read_all, write_all};
+use gw_polling::{PollEdge, PollLink, PollUpstream, Ring};
 use gw_replay::{Ending, Replayed};
 use gw_serve::{ServeFault, Service, serve};
 use gw_snap::SnapFaults;
-use std::alloc::Global;
+use std::alloc::{AllocGlobal, Global};
+use std::random::RandomSource;
 use std::sync::Wait;
 use std::thread::Threads;
 
@@ -33,12 +35,15 @@ pub fn run<
     L: Link + Send + 'static,
     A: Acceptor<Conn = L> + Send + 'static,
     U: Upstream + Send + 'static,
+    P: PollLink + Send + 'static,
+    V: PollUpstream + Send + 'static,
+    G: Ring<Link = P, Up = V> + Send + 'static,
     S: Source,
     K: Sink,
     C: Clock + Drop + Send + 'static,
-    E: Edge<Accept = A, Up = U>,
+    E: PollEdge<Accept = A, Up = U, Ring = G>,
     W: Crew,
-    R: Wait + Threads + Clone + Drop + Send + Sync + 'static,
+    R: Wait + Threads + RandomSource + AllocGlobal + Clone + Drop + Send + Sync + 'static,
 >(
     rt: &R,
     alloc: Global,
@@ -119,7 +124,7 @@ pub fn run<
         Ok(setting) => setting,
         Err(fault) => return end(sink, fault),
     };
-    if let Some((workers, conns, admin)) = setting.service() {
+    if let Some((workers, conns, admin, polled)) = setting.service() {
         let Setting {
             controller,
             doors,
@@ -131,8 +136,9 @@ pub fn run<
             admin,
             workers,
             conns,
+            polled,
         };
-        return run_service::<L, A, U, K, C, E, W, R>(
+        return run_service::<L, A, U, P, V, G, K, C, E, W, R>(
             rt, alloc, service, sink, clock, edge, crew, snap,
         );
     }
@@ -156,11 +162,14 @@ fn run_service<
     L: Link + Send + 'static,
     A: Acceptor<Conn = L> + Send + 'static,
     U: Upstream + Send + 'static,
+    P: PollLink + Send + 'static,
+    V: PollUpstream + Send + 'static,
+    G: Ring<Link = P, Up = V> + Send + 'static,
     K: Sink,
     C: Clock + Drop + Send + 'static,
-    E: Edge<Accept = A, Up = U>,
+    E: PollEdge<Accept = A, Up = U, Ring = G>,
     W: Crew,
-    R: Wait + Threads + Clone + Drop + Send + Sync + 'static,
+    R: Wait + Threads + RandomSource + AllocGlobal + Clone + Drop + Send + Sync + 'static,
 >(
     rt: &R,
     alloc: Global,
@@ -183,7 +192,9 @@ fn run_service<
     ensures ahead { snap.new.ahead ≡ snap.old.ahead }
     ensures sink_later { K.faults sink.old ≤ K.faults sink.new }
 {
-    match serve::<L, A, U, E, W, C, K, R>(rt, alloc, service, sink, clock, edge, crew, snap) {
+    match serve::<L, A, U, P, V, G, E, W, C, K, R>(
+        rt, alloc, service, sink, clock, edge, crew, snap,
+    ) {
         Ok(()) => 0,
         Err(ServeFault::Place) => end(sink, Fault::NoPlace),
         Err(ServeFault::Bind) => end(sink, Fault::NotBound),

@@ -2,12 +2,15 @@
 use crate::run::run;
 use gw_edge::{MemCrew, MemEdge};
 use gw_link::{MemClock, MemSink, MemSource};
+use gw_polling::MemPollEdge;
 use gw_snap::SnapFaults;
-use std::alloc::{AllocError, Global};
+use std::alloc::{AllocError, AllocGlobal, Global};
+use std::random::RandomSource;
 use std::sync::Wait;
 use std::thread::Threads;
 
 mod faults;
+mod polled;
 mod serving;
 
 // What a run left: its exit code, what it wrote, and what it left of its input.
@@ -28,13 +31,13 @@ fn words_of(alloc: Global, texts: &[&str]) -> Result<Vec<String>, AllocError> {
 }
 
 // A run of these words over an edge and a crew.
-fn run_over<R: Wait + Threads + Clone + Drop + Send + Sync + 'static>(
+fn run_over<R: Wait + Threads + RandomSource + AllocGlobal + Clone + Drop + Send + Sync + 'static>(
     rt: &R,
     alloc: Global,
     texts: &[&str],
     mut source: MemSource,
     mut sink: MemSink,
-    edge: &mut MemEdge,
+    edge: &mut MemPollEdge,
     crew: &mut MemCrew,
 ) -> Result<Ran, AllocError> {
     let words = words_of(alloc, texts)?;
@@ -59,14 +62,14 @@ fn run_over<R: Wait + Threads + Clone + Drop + Send + Sync + 'static>(
 }
 
 // A run of one word, which comes to no edge and no crew.
-fn run_word<R: Wait + Threads + Clone + Drop + Send + Sync + 'static>(
+fn run_word<R: Wait + Threads + RandomSource + AllocGlobal + Clone + Drop + Send + Sync + 'static>(
     rt: &R,
     alloc: Global,
     word: &str,
     source: MemSource,
     sink: MemSink,
 ) -> Result<Ran, AllocError> {
-    let mut edge = MemEdge::new(alloc, Vec::new(alloc));
+    let mut edge = MemPollEdge::new(alloc, MemEdge::new(alloc, Vec::new(alloc)), Vec::new(alloc));
     let mut crew = MemCrew::new(Vec::new(alloc));
     run_over(rt, alloc, &[word], source, sink, &mut edge, &mut crew)
 }

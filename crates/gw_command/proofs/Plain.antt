@@ -1,7 +1,5 @@
 -- Plain words are read as they stand.
-use Rattle.std.proofs.Common.{◌≡◌, ◌∙◌, ◌==◌, ap, ap₂, subst, refl, sym, true, false, true≢false, Bool, ◌||◌, if◌then◌else◌, bytes_eq, codes, List, [], ◌∷◌, ◌++◌, append_assoc, append-nil, fold, map, length, Some, None, option_map}
-use Rattle.std.specs.List.{list_all, flat_map}
-use Rattle.std.proofs.lemmas.List.Concat.{flat_map-append}
+use Rattle.std.proofs.Common.{◌≡◌, ◌∙◌, ◌==◌, ap, ap₂, subst, refl, sym, true, false, true≢false, Bool, ◌||◌, if◌then◌else◌, bytes_eq, codes, List, [], ◌∷◌, ◌++◌, fold, map, length, Some, None, option_map}
 use Rattle.std.proofs.lemmas.Slice.Eq.{bytes_eq-Decides}
 use Rattle.clap.specs.Walk.{Row, Text, first_of, has_row, more_values, with_default}
 use Rattle.clap.specs.Faults.{defaults_fault}
@@ -12,8 +10,8 @@ use Rattle.clap.proofs.OnLiterals.{clap_on_literals}
 use Rattle.clap.proofs.WalkLemmas.{both}
 use Rattle.gw_text.specs.model.Chains.{◌>>=◌}
 use Rattle.gw_command.specs.Words.{status, status_app, explain, explain_app, controller_by, doors_of, doors_in, found_in, status_in, status_of, explain_in, explain_by, explain_of, replay, replay_app, replay_in, replay_by, replay_of, generate, generate_app, generate_in, generate_by, generate_of, is_given, serve, serve_app, serve_in, serve_by, serve_of, command_of}
-use Rattle.gw_command.specs.Plain.{Given, Plain, PlainGenerate, written, plain_words, plain_generate_words, without_run, is_plain, is_plain_text, is_each_once, is_among, status_options, plain_status, explain_options, plain_explain, replay_options, plain_replay, generate_options, plain_generate, serve_options, plain_serve, value_given, ReadsPlain}
-use Rattle.gw_command.proofs.Tables.{IsOption, IsFlag, TakesDoors, TakesFlag, option_row, door_rows, flag_row, no_flag_row, plain_taken, flag_taken, no_flag_taken, value_in_rows, value_among, value_there, doors_in_rows, none_is, no_row, once_of, or_true, same_both, at_none}
+use Rattle.gw_command.specs.Plain.{Plain, Flagged, plain_words, flagged_words, without_flag, is_plain, is_each_once, is_among, status_options, plain_status, explain_options, plain_explain, replay_options, plain_replay, generate_options, plain_generate, serve_options, plain_serve, value_given, ReadsPlain}
+use Rattle.gw_command.proofs.Tables.{IsOption, IsFlag, TakesDoors, TakesThese, takes_these, TakesFlag, option_row, door_rows, no_flag_row, flagged_rows, plain_taken, flagged_taken, value_in_rows, value_in_flagged, flag_in_flagged, doors_in_rows, doors_in_flagged, none_is, or_true, same_both, at_none}
 
 -- what is so of the first name of a table, and of the others, is so of each
 here : (P : Text → Type 0) (known name : Text) (table : List Text) → P known → (is_among table name ≡ true → P name) → is_among (known ∷ table) name ≡ true → P name
@@ -35,7 +33,7 @@ abbrev for_status : App
 for_status = built status_app
 
 status_doors : TakesDoors for_status.top
-status_doors = record { by_index = refl; by_id = refl; again = refl; defaults = refl }
+status_doors = record { by_index = refl; by_id = refl; again = refl }
 
 status_has : IsOption for_status.top.rules (codes "controller")
 unfolding clap_on_literals
@@ -57,7 +55,7 @@ status_found : (p : Plain) → is_plain status_options p ≡ true → found_in s
 unfolding found_in
 status_found p plain =
     ap (λ (r : Kinds × List Row). if length r.0 == 0 then Some r.1 else None)
-    (plain_taken for_status status_options p status_doors (status_each (IsOption for_status.top.rules) status_has) plain refl)
+    (plain_taken for_status status_options p status_doors refl (status_each (IsOption for_status.top.rules) status_has) plain refl)
 
 abbrev no_door : Text → Type 0
 no_door name = bytes_eq name (codes "door") ≡ false
@@ -78,7 +76,7 @@ abbrev for_explain : App
 for_explain = built explain_app
 
 explain_doors : TakesDoors for_explain.top
-explain_doors = record { by_index = refl; by_id = refl; again = refl; defaults = refl }
+explain_doors = record { by_index = refl; by_id = refl; again = refl }
 
 explain_has_controller : IsOption for_explain.top.rules (codes "controller")
 unfolding clap_on_literals
@@ -128,7 +126,7 @@ explain_found : (p : Plain) → is_plain explain_options p ≡ true → found_in
 unfolding found_in
 explain_found p plain =
     ap (λ (r : Kinds × List Row). if length r.0 == 0 then Some r.1 else None)
-    (plain_taken for_explain explain_options p explain_doors (explain_each (IsOption for_explain.top.rules) explain_has_controller explain_has_at explain_has_request) plain refl)
+    (plain_taken for_explain explain_options p explain_doors refl (explain_each (IsOption for_explain.top.rules) explain_has_controller explain_has_at explain_has_request) plain refl)
 
 explain_values : (p : Plain) → is_plain explain_options p ≡ true → explain_in (rows_in p) ≡ plain_explain p
 explain_values p plain =
@@ -147,7 +145,7 @@ abbrev for_replay : App
 for_replay = built replay_app
 
 replay_doors : TakesDoors for_replay.top
-replay_doors = record { by_index = refl; by_id = refl; again = refl; defaults = refl }
+replay_doors = record { by_index = refl; by_id = refl; again = refl }
 
 replay_has_controller : IsOption for_replay.top.rules (codes "controller")
 unfolding clap_on_literals
@@ -182,7 +180,7 @@ replay_found : (p : Plain) → is_plain replay_options p ≡ true → found_in r
 unfolding found_in
 replay_found p plain =
     ap (λ (r : Kinds × List Row). if length r.0 == 0 then Some r.1 else None)
-    (plain_taken for_replay replay_options p replay_doors (replay_each (IsOption for_replay.top.rules) replay_has_controller replay_has_workers) plain refl)
+    (plain_taken for_replay replay_options p replay_doors refl (replay_each (IsOption for_replay.top.rules) replay_has_controller replay_has_workers) plain refl)
 
 replay_values : (p : Plain) → is_plain replay_options p ≡ true → replay_in (rows_in p) ≡ plain_replay p
 replay_values p plain =
@@ -251,11 +249,6 @@ generate_each P a b c name =
 generate_option : (name : Text) → is_among generate_options name ≡ true → IsOption for_generate.top.rules name
 generate_option = generate_each (IsOption for_generate.top.rules) generate_has_seed generate_has_routes generate_has_requests
 
--- the rows of a script's words: where the flag is not given, it has its default behind them
-abbrev generate_rows : List Given → Bool → List Given → List Row
-generate_rows before true behind = map option_row before ++ flag_row (codes "run") ∷ map option_row behind
-generate_rows before false behind = map option_row (before ++ behind) ++ no_flag_row (codes "run") ∷ []
-
 -- the flag that is given needs no default
 run_given : (rows : List Row) → has_row (codes "run") rows ≡ true
     → (defaults_fault rows for_generate.top.rules ≡ []) × (fold with_default rows for_generate.top.rules ≡ rows)
@@ -276,65 +269,32 @@ generate_takes = record {
   options = generate_option;
   flag = generate_has_run;
   others = generate_each (λ name. (bytes_eq name (codes "run") ≡ false) × (bytes_eq (codes "run") name ≡ false)) (refl, refl) (refl, refl) (refl, refl);
+  no_door = (refl, refl);
   again = refl;
   given = run_given;
   left_out = run_left_out;
   check = λ rows. refl;
 }
 
-run_found : (before behind : List Given) → is_each_once generate_options (before ++ behind) ≡ true → list_all (λ (o : Given). is_plain_text o.value) (before ++ behind) ≡ true
-    → found_in generate_app (codes "generate" ∷ (flat_map written before ++ codes "--run" ∷ flat_map written behind)) ≡ Some (generate_rows before true behind)
+-- the words have no DOORs
+generate_found : (p : Flagged) → p.doors ≡ [] → is_plain generate_options (without_flag p) ≡ true
+    → found_in generate_app (codes "generate" ∷ flagged_words (codes "run") p) ≡ Some (flagged_rows (codes "run") p)
 unfolding found_in
-run_found before behind once texts =
-    ap (λ (r : Kinds × List Row). if length r.0 == 0 then Some r.1 else None) (flag_taken for_generate generate_options (codes "run") before behind generate_takes once texts)
+generate_found p none plain =
+    ap (λ (r : Kinds × List Row). if length r.0 == 0 then Some r.1 else None)
+    (flagged_taken for_generate generate_options (codes "run") p generate_takes (subst (TakesThese for_generate.top) (sym none) tt) plain)
 
-no_run_found : (options : List Given) → is_each_once generate_options options ≡ true → list_all (λ (o : Given). is_plain_text o.value) options ≡ true
-    → found_in generate_app (codes "generate" ∷ flat_map written options) ≡ Some (map option_row options ++ no_flag_row (codes "run") ∷ [])
-unfolding found_in
-no_run_found options once texts =
-    ap (λ (r : Kinds × List Row). if length r.0 == 0 then Some r.1 else None) (no_flag_taken for_generate generate_options (codes "run") options generate_takes once texts)
-
-generate_found : (before : List Given) (runs : Bool) (behind : List Given) → is_each_once generate_options (before ++ behind) ≡ true
-    → list_all (λ (o : Given). is_plain_text o.value) (before ++ behind) ≡ true
-    → found_in generate_app (codes "generate" ∷ plain_generate_words (record { before = before; runs = runs; behind = behind })) ≡ Some (generate_rows before runs behind)
-generate_found before true behind once texts =
-    ap (λ words. found_in generate_app (codes "generate" ∷ words)) (append_assoc (flat_map written before) (codes "--run" ∷ []) (flat_map written behind))
-    ∙ run_found before behind once texts
-generate_found before false behind once texts =
-    ap (λ words. found_in generate_app (codes "generate" ∷ (words ++ flat_map written behind))) (append-nil (flat_map written before))
-    ∙ ap (λ words. found_in generate_app (codes "generate" ∷ words)) (sym (flat_map-append written before behind))
-    ∙ no_run_found (before ++ behind) once texts
-
--- an option's value is not touched by the flag's row
-generate_value : (name : Text) (before : List Given) (runs : Bool) (behind : List Given) → bytes_eq (codes "run") name ≡ false
-    → first_of name (generate_rows before runs behind) ≡ value_given name (before ++ behind)
-generate_value name before true behind other =
-    value_among name before behind (flag_row (codes "run") ∷ map option_row behind)
-    (rw other (ap (first_of name) (sym (append-nil (map option_row behind))) ∙ value_among name behind [] [] refl ∙ ap (value_given name) (append-nil behind)))
-generate_value name before false behind other =
-    value_among name (before ++ behind) [] (no_flag_row (codes "run") ∷ []) (rw other refl) ∙ ap (value_given name) (append-nil (before ++ behind))
-
-no_option_is_run : (options : List Given) → is_each_once generate_options options ≡ true → has_row (codes "run") (map option_row options) ≡ false
-no_option_is_run options once = no_row (codes "run") options (none_is (codes "run") generate_options options (λ name among. (generate_takes.others name among).0) once)
-
-generate_runs : (before : List Given) (runs : Bool) (behind : List Given) → is_each_once generate_options (before ++ behind) ≡ true
-    → is_given (first_of (codes "run") (generate_rows before runs behind)) ≡ runs
-generate_runs before true behind once =
-    ap is_given (value_there (codes "run") (map option_row before) (flag_row (codes "run")) (map option_row behind) (no_option_is_run before (once_of generate_options before behind once)) refl)
-generate_runs before false behind once =
-    ap is_given (value_there (codes "run") (map option_row (before ++ behind)) (no_flag_row (codes "run")) [] (no_option_is_run (before ++ behind) once) refl)
-
-generate_read : (p : PlainGenerate) → is_plain generate_options (without_run p) ≡ true → generate_of (codes "generate" ∷ plain_generate_words p) ≡ plain_generate p
-unfolding generate_of
-generate_read p plain =
-    let parts = both (is_each_once generate_options (p.before ++ p.behind)) _ plain in
-    let texts = both (list_all (λ (o : Given). is_plain_text o.value) (p.before ++ p.behind)) _ parts.1 in
-    let rows : List Row = generate_rows p.before p.runs p.behind in
-    ap (λ found. found >>= generate_in) (generate_found p.before p.runs p.behind parts.0 texts.0)
-    ∙ ap₂ (λ seed routes. generate_by seed routes (first_of (codes "requests") rows) (is_given (first_of (codes "run") rows)))
-    (generate_value (codes "seed") p.before p.runs p.behind refl) (generate_value (codes "routes") p.before p.runs p.behind refl)
+generate_values : (p : Flagged) → is_plain generate_options (without_flag p) ≡ true → generate_in (flagged_rows (codes "run") p) ≡ plain_generate p
+generate_values p plain =
+    let rows : List Row = flagged_rows (codes "run") p in
+    ap₂ (λ seed routes. generate_by seed routes (first_of (codes "requests") rows) (is_given (first_of (codes "run") rows)))
+    (value_in_flagged (codes "seed") (codes "run") p refl refl) (value_in_flagged (codes "routes") (codes "run") p refl refl)
     ∙ ap₂ (generate_by (value_given (codes "seed") (p.before ++ p.behind)) (value_given (codes "routes") (p.before ++ p.behind)))
-    (generate_value (codes "requests") p.before p.runs p.behind refl) (generate_runs p.before p.runs p.behind parts.0)
+    (value_in_flagged (codes "requests") (codes "run") p refl refl) (flag_in_flagged generate_options (codes "run") p generate_takes plain)
+
+generate_read : (p : Flagged) → p.doors ≡ [] → is_plain generate_options (without_flag p) ≡ true → generate_of (codes "generate" ∷ flagged_words (codes "run") p) ≡ plain_generate p
+unfolding generate_of
+generate_read p none plain = ap (λ found. found >>= generate_in) (generate_found p none plain) ∙ generate_values p plain
 
 -- ---- serve
 
@@ -342,7 +302,7 @@ abbrev for_serve : App
 for_serve = built serve_app
 
 serve_doors : TakesDoors for_serve.top
-serve_doors = record { by_index = refl; by_id = refl; again = refl; defaults = refl }
+serve_doors = record { by_index = refl; by_id = refl; again = refl }
 
 serve_has_controller : IsOption for_serve.top.rules (codes "controller")
 unfolding clap_on_literals
@@ -403,23 +363,57 @@ serve_each P a b c d name =
     (here P (codes "workers") name (codes "conns" ∷ codes "admin" ∷ []) b
     (here P (codes "conns") name (codes "admin" ∷ []) c (here P (codes "admin") name [] d (nobody P name))))
 
-serve_found : (p : Plain) → is_plain serve_options p ≡ true → found_in serve_app (codes "serve" ∷ plain_words p) ≡ Some (rows_in p)
+serve_has_polled : IsFlag for_serve.top.rules (codes "polled")
+unfolding clap_on_literals
+serve_has_polled = record { by_long = refl; alone = refl; alone_dashes = refl }
+
+-- the flag that is given needs no default
+polled_given : (rows : List Row) → has_row (codes "polled") rows ≡ true
+    → (defaults_fault rows for_serve.top.rules ≡ []) × (fold with_default rows for_serve.top.rules ≡ rows)
+unfolding defaults_fault
+polled_given rows there = (simp (or_true, same_both, there) refl, simp (same_both, there) refl)
+
+-- and one that isn't given has it
+polled_left_out : (rows : List Row) → has_row (codes "polled") rows ≡ false
+    → (defaults_fault rows for_serve.top.rules ≡ []) × (fold with_default rows for_serve.top.rules ≡ rows ++ no_flag_row (codes "polled") ∷ [])
+unfolding defaults_fault
+polled_left_out rows none = (
+  simp (or_true, same_both, none) refl,
+  simp (same_both, none) (at_none (codes "polled") (more_values DefaultValue (codes "false" ∷ [])) (no_flag_row (codes "polled") ∷ []) rows none),
+)
+
+serve_takes : TakesFlag for_serve.top serve_options (codes "polled")
+serve_takes = record {
+  options = serve_each (IsOption for_serve.top.rules) serve_has_controller serve_has_workers serve_has_conns serve_has_admin;
+  flag = serve_has_polled;
+  others = serve_each (λ name. (bytes_eq name (codes "polled") ≡ false) × (bytes_eq (codes "polled") name ≡ false)) (refl, refl) (refl, refl) (refl, refl) (refl, refl);
+  no_door = (refl, refl);
+  again = refl;
+  given = polled_given;
+  left_out = polled_left_out;
+  check = λ rows. refl;
+}
+
+serve_found : (p : Flagged) → is_plain serve_options (without_flag p) ≡ true
+    → found_in serve_app (codes "serve" ∷ flagged_words (codes "polled") p) ≡ Some (flagged_rows (codes "polled") p)
 unfolding found_in
 serve_found p plain =
     ap (λ (r : Kinds × List Row). if length r.0 == 0 then Some r.1 else None)
-    (plain_taken for_serve serve_options p serve_doors
-    (serve_each (IsOption for_serve.top.rules) serve_has_controller serve_has_workers serve_has_conns serve_has_admin) plain refl)
+    (flagged_taken for_serve serve_options (codes "polled") p serve_takes (takes_these serve_doors p.doors) plain)
 
-serve_values : (p : Plain) → is_plain serve_options p ≡ true → serve_in (rows_in p) ≡ plain_serve p
+serve_values : (p : Flagged) → is_plain serve_options (without_flag p) ≡ true → serve_in (flagged_rows (codes "polled") p) ≡ plain_serve p
 serve_values p plain =
-    ap₂ (λ controller workers. serve_by controller workers (first_of (codes "conns") (rows_in p)) (first_of (codes "admin") (rows_in p)) (doors_in (rows_in p)))
-    (value_in_rows (codes "controller") p.options p.doors refl) (value_in_rows (codes "workers") p.options p.doors refl)
-    ∙ ap₂ (λ conns admin. serve_by (value_given (codes "controller") p.options) (value_given (codes "workers") p.options) conns admin (doors_in (rows_in p)))
-    (value_in_rows (codes "conns") p.options p.doors refl) (value_in_rows (codes "admin") p.options p.doors refl)
-    ∙ ap (serve_by (value_given (codes "controller") p.options) (value_given (codes "workers") p.options) (value_given (codes "conns") p.options) (value_given (codes "admin") p.options))
-    (others_of serve_options p (serve_each no_door refl refl refl refl) plain)
+    let rows : List Row = flagged_rows (codes "polled") p in
+    ap₂ (λ controller workers. serve_by controller workers (first_of (codes "conns") rows) (first_of (codes "admin") rows) (is_given (first_of (codes "polled") rows)) (doors_in rows))
+    (value_in_flagged (codes "controller") (codes "polled") p refl refl) (value_in_flagged (codes "workers") (codes "polled") p refl refl)
+    ∙ ap₂ (λ conns admin.
+    serve_by (value_given (codes "controller") (p.before ++ p.behind)) (value_given (codes "workers") (p.before ++ p.behind)) conns admin (is_given (first_of (codes "polled") rows)) (doors_in rows))
+    (value_in_flagged (codes "conns") (codes "polled") p refl refl) (value_in_flagged (codes "admin") (codes "polled") p refl refl)
+    ∙ ap₂ (serve_by (value_given (codes "controller") (p.before ++ p.behind)) (value_given (codes "workers") (p.before ++ p.behind))
+    (value_given (codes "conns") (p.before ++ p.behind)) (value_given (codes "admin") (p.before ++ p.behind)))
+    (flag_in_flagged serve_options (codes "polled") p serve_takes plain) (doors_in_flagged serve_options (codes "polled") p serve_takes plain)
 
-serve_read : (p : Plain) → is_plain serve_options p ≡ true → serve_of (codes "serve" ∷ plain_words p) ≡ plain_serve p
+serve_read : (p : Flagged) → is_plain serve_options (without_flag p) ≡ true → serve_of (codes "serve" ∷ flagged_words (codes "polled") p) ≡ plain_serve p
 unfolding serve_of
 serve_read p plain = ap (λ found. found >>= serve_in) (serve_found p plain) ∙ serve_values p plain
 
@@ -428,6 +422,6 @@ plain_is_read words = record {
   status = λ p plain are. ap command_of are ∙ ap (option_map status) (status_read p plain);
   explain = λ p plain are. ap command_of are ∙ ap (option_map explain) (explain_read p plain);
   replay = λ p plain are. ap command_of are ∙ ap (option_map replay) (replay_read p plain);
-  generate = λ p plain are. ap command_of are ∙ ap (option_map generate) (generate_read p plain);
+  generate = λ p none plain are. ap command_of are ∙ ap (option_map generate) (generate_read p none plain);
   serve = λ p plain are. ap command_of are ∙ ap (option_map serve) (serve_read p plain);
 }

@@ -1,9 +1,10 @@
--- What a command makes of plain words, where its options have one value each and it takes DOORs.
-use Rattle.std.proofs.Common.{◌≡◌, ◌∙◌, ℕ, refl, sym, ap, true, false, List, [], ◌∷◌, ◌++◌, map, codes, Option, Some, None, ◌==◌, ◌&&◌, ◌||◌, bytes_eq, option_map, option_and_then, unwrap_or, slice_get, is_some, cond, Bool, not, append_assoc, append-nil, true≢false}
+-- What a command makes of plain words, where its options have one value each and it takes a flag, or DOORs, or both.
+use Rattle.std.proofs.Common.{◌≡◌, ◌∙◌, ℕ, refl, sym, ap, subst, true, false, List, [], ◌∷◌, ◌++◌, map, codes, Option, Some, None, ◌==◌, ◌&&◌, ◌||◌, bytes_eq, option_map, option_and_then, unwrap_or, slice_get, is_some, cond, if◌then◌else◌, Bool, not, append_assoc, append-nil, true≢false}
 use Rattle.std.specs.List.{fold, list_all, find, flat_map, filter}
+use Rattle.std.proofs.lemmas.List.Concat.{flat_map-append}
 use Rattle.std.proofs.lemmas.Slice.Eq.{bytes_eq-Decides}
 use Rattle.clap.specs.Lexer.{long_of}
-use Rattle.clap.specs.Walk.{Row, Rule, Walk, Text, positional, idle, option, walk_from, walked, used, settled, settled_rows, nothing_held, finished, at_row, without, with_values, more_values, has_row, arg_by_long, reading_by, arg_by_id, arg_by_index, is_empty, with_default, first_of, all_of, is_pending}
+use Rattle.clap.specs.Walk.{Row, Rule, Walk, Text, positional, idle, option, walk_from, walked, used, settled, settled_rows, nothing_held, finished, at_row, without, with_values, more_values, has_row, arg_by_long, reading_by, arg_by_id, arg_by_index, is_empty, with_default, first_of, is_pending}
 use Rattle.clap.specs.Simple.{App, Shape, entered, with_index, filled, new_rule}
 use Rattle.clap.specs.Kinds.{Kinds, or_else}
 use Rattle.clap.specs.Faults.{walk_fault, turn_fault, settle_fault, defaults_fault, check_fault, entered_fault}
@@ -13,8 +14,8 @@ use Rattle.clap.specs.declared.builder.value_parser.Reading.TheVariants.{AsWritt
 use Rattle.clap.specs.declared.parser.matches.ValueSource.TheVariants.{CommandLine, DefaultValue}
 use Rattle.clap.proofs.WalkLemmas.{both}
 use Rattle.clap.proofs.SimpleLemmas.{is_false, is_nil}
-use Rattle.gw_command.specs.Words.{door_rule, flag_rule}
-use Rattle.gw_command.specs.Plain.{Given, Plain, written, plain_words, is_plain, is_each_once, is_among, is_plain_text, value_given}
+use Rattle.gw_command.specs.Words.{door_rule, doors_in, flag_rule, is_given}
+use Rattle.gw_command.specs.Plain.{Given, Plain, Flagged, written, plain_words, flagged_words, without_flag, is_plain, is_each_once, is_among, is_plain_text, value_given}
 
 -- ---- rows
 
@@ -84,11 +85,18 @@ no_default_fault rows (a ∷ c) e =
     let parts = both (is_empty a.defaults) _ e in
     rw (parts.0, or_true (has_row a.id rows), is_nil _ parts.0, same_both (has_row a.id rows) rows) (no_default_fault rows c parts.1)
 
+no_row_behind : (id : Text) (front rows : List Row) → has_row id front ≡ false → has_row id rows ≡ false → has_row id (front ++ rows) ≡ false
+no_row_behind id [] rows none others = others
+no_row_behind id (x ∷ front) rows none others =
+    let parts = neither (bytes_eq x.id id) (has_row id front) none in
+    rw parts.0 (no_row_behind id front rows parts.1 others)
+
 has_row_added : (id : Text) (rows : List Row) (r : Row) → has_row id rows ≡ false → bytes_eq r.id id ≡ false → has_row id (rows ++ r ∷ []) ≡ false
-has_row_added id [] r none other = rw other refl
-has_row_added id (x ∷ rows) r none other =
-    let parts = neither (bytes_eq x.id id) (has_row id rows) none in
-    rw parts.0 (has_row_added id rows r parts.1 other)
+has_row_added id rows r none other = no_row_behind id rows (r ∷ []) none (rw other refl)
+
+no_door_row : (id : Text) (ds : List Text) → bytes_eq (codes "door") id ≡ false → has_row id (door_rows ds) ≡ false
+no_door_row id [] other = refl
+no_door_row id (d ∷ ds) other = rw other refl
 
 -- a name that is left in the table without another
 still_among : (other : Text) (table : List Text) (name : Text) → is_among (filter (λ n. not (bytes_eq other n)) table) name ≡ true
@@ -152,17 +160,32 @@ pub record TakesFlag (s : Shape) (table : List Text) (name : Text) : Type 0 wher
   pub options : (option : Text) → is_among table option ≡ true → IsOption s.rules option
   pub flag : IsFlag s.rules name
   pub others : (option : Text) → is_among table option ≡ true → (bytes_eq option name ≡ false) × (bytes_eq name option ≡ false)
+  pub no_door : (bytes_eq name (codes "door") ≡ false) × (bytes_eq (codes "door") name ≡ false)
   pub again : s.args_override_self ≡ false
   pub given : (rows : List Row) → has_row name rows ≡ true → (defaults_fault rows s.rules ≡ []) × (fold with_default rows s.rules ≡ rows)
   pub left_out : (rows : List Row) → has_row name rows ≡ false → (defaults_fault rows s.rules ≡ []) × (fold with_default rows s.rules ≡ rows ++ no_flag_row name ∷ [])
   pub check : (rows : List Row) → check_fault s rows false ≡ []
 
--- the command takes DOORs, gives no argument a default, and refuses a second use
+-- the command takes DOORs, and refuses a second use
 pub record TakesDoors (s : Shape) : Type 0 where
   pub by_index : arg_by_index s.rules 1 ≡ Some door
   pub by_id : arg_by_id s.rules (codes "door") ≡ Some door
   pub again : s.args_override_self ≡ false
-  pub defaults : list_all (λ a. is_empty a.defaults) s.rules ≡ true
+
+-- it takes DOORs where there are some
+abbrev pub TakesThese : Shape → List Text → Type 0
+TakesThese s [] = Unit {0}
+TakesThese s (d ∷ ds) = TakesDoors s
+
+pub takes_these : {s : Shape} → TakesDoors s → (ds : List Text) → TakesThese s ds
+takes_these t [] = tt
+takes_these t (d ∷ ds) = t
+
+-- with the defaults behind them these rows are all rows, and the command takes them
+pub record IsCompleted (s : Shape) (rows all : List Row) : Type 0 where
+  pub fault : defaults_fault rows s.rules ≡ []
+  pub defaults : fold with_default rows s.rules ≡ all
+  pub check : check_fault s all false ≡ []
 
 -- no option of a table without a name is called so
 pub none_is : (id : Text) (table : List Text) (options : List Given) → ((name : Text) → is_among table name ≡ true → bytes_eq name id ≡ false)
@@ -174,31 +197,43 @@ none_is id table (o ∷ options) others once =
     (λ name among. others name (still_among o.name table name among).0) parts.1)
 
 -- and so none has its row
-pub no_row : (id : Text) (options : List Given) → list_all (λ (o : Given). not (bytes_eq o.name id)) options ≡ true → has_row id (map option_row options) ≡ false
+no_row : (id : Text) (options : List Given) → list_all (λ (o : Given). not (bytes_eq o.name id)) options ≡ true → has_row id (map option_row options) ≡ false
 no_row id [] others = refl
 no_row id (o ∷ options) others =
     let parts = both (not (bytes_eq o.name id)) _ others in
     rw (is_false _ parts.0) (no_row id options parts.1)
 
--- options of which each is there once are so without others behind them
-pub once_of : (table : List Text) (options others : List Given) → is_each_once table (options ++ others) ≡ true → is_each_once table options ≡ true
-once_of table [] others once = refl
-once_of table (o ∷ options) others once =
-    let parts = both (is_among table o.name) _ once in
-    rw parts.0 (once_of (filter (λ n. not (bytes_eq o.name n)) table) options others parts.1)
-
-each_of : (options others : List Given) → list_all (λ (o : Given). is_plain_text o.value) (options ++ others) ≡ true
-    → (list_all (λ (o : Given). is_plain_text o.value) options ≡ true) × (list_all (λ (o : Given). is_plain_text o.value) others ≡ true)
-each_of [] others texts = (refl, texts)
-each_of (o ∷ options) others texts =
-    let parts = both (is_plain_text o.value) _ texts in
-    let rest = each_of options others parts.1 in
+-- what is so of options and of others behind them is so of both
+each_of : (test : Given → Bool) (options others : List Given) → list_all test (options ++ others) ≡ true → (list_all test options ≡ true) × (list_all test others ≡ true)
+each_of test [] others all = (refl, all)
+each_of test (o ∷ options) others all =
+    let parts = both (test o) _ all in
+    let rest = each_of test options others parts.1 in
     (rw parts.0 rest.0, rest.1)
+
+none_of : (id : Text) (table : List Text) (before behind : List Given) → ((name : Text) → is_among table name ≡ true → bytes_eq name id ≡ false) → is_each_once table (before ++ behind) ≡ true
+    → (list_all (λ (o : Given). not (bytes_eq o.name id)) before ≡ true) × (list_all (λ (o : Given). not (bytes_eq o.name id)) behind ≡ true)
+none_of id table before behind others once = each_of (λ (o : Given). not (bytes_eq o.name id)) before behind (none_is id table (before ++ behind) others once)
 
 -- a row that is there, among others
 has_row_there : (id : Text) (front : List Row) (r : Row) (rows : List Row) → bytes_eq r.id id ≡ true → has_row id (front ++ r ∷ rows) ≡ true
 has_row_there id [] r rows same = rw same refl
 has_row_there id (x ∷ front) r rows same = rw (has_row_there id front r rows same) (or_true (bytes_eq x.id id))
+
+-- plain words of a command with a flag have these rows: where the flag isn't given, its default is behind them
+abbrev pub flagged_rows : Text → Flagged → List Row
+flagged_rows name p =
+    if p.is_given then map option_row p.before ++ flag_row name ∷ (map option_row p.behind ++ door_rows p.doors)
+    else (map option_row (p.before ++ p.behind) ++ door_rows p.doors) ++ no_flag_row name ∷ []
+
+-- options and DOORs have no row of the flag
+no_flag_among : {s : Shape} (table : List Text) (name : Text) (p : Plain) → TakesFlag s table name → is_plain table p ≡ true
+    → has_row name (map option_row p.options ++ door_rows p.doors) ≡ false
+no_flag_among table name p t plain =
+    let parts = both (is_each_once table p.options) _ plain in
+    no_row_behind name (map option_row p.options) (door_rows p.doors)
+    (no_row name p.options (none_is name table p.options (λ option among. (t.others option among).0) parts.0))
+    (no_door_row name p.doors t.no_door.1)
 
 -- ---- the walk
 
@@ -293,42 +328,37 @@ module _ (app : App) where
       (simp (other, t.by_index, t.by_id) (ap (λ rs. after_door rs (b ∷ bs)) (door_added rows done d none)))
 
   -- the end of the words
-  ends_with : (w : Walk) (rows all : List Row) → app.top.args_override_self ≡ false → w.stopped ≡ None → settle_fault app.top.rules false w.held ≡ [] → settled_rows app.top.rules w.held.pending w.held.rows ≡ rows
-      → defaults_fault rows app.top.rules ≡ [] → fold with_default rows app.top.rules ≡ all → check_fault app.top all false ≡ [] → read_from w [] ≡ ([], all)
+  ends : (w : Walk) (rows all : List Row) → app.top.args_override_self ≡ false → w.stopped ≡ None → settle_fault app.top.rules false w.held ≡ [] → settled_rows app.top.rules w.held.pending w.held.rows ≡ rows
+      → IsCompleted app.top rows all → read_from w [] ≡ ([], all)
   unfolding walk_fault
-  ends_with w rows all again stopped none is fault defaults check = simp (stopped, again, none, is, fault, defaults, check) refl
+  ends w rows all again stopped none is complete = simp (stopped, again, none, is, complete.fault, complete.defaults, complete.check) refl
 
-  ends : (w : Walk) (rows : List Row) → TakesDoors app.top → w.stopped ≡ None → settle_fault app.top.rules false w.held ≡ [] → settled_rows app.top.rules w.held.pending w.held.rows ≡ rows
-      → check_fault app.top rows false ≡ [] → read_from w [] ≡ ([], rows)
-  ends w rows t stopped none is check =
-      ends_with w rows rows t.again stopped none is (no_default_fault rows app.top.rules t.defaults) (no_defaults rows app.top.rules t.defaults) check
-
-  doors_read : (rows : List Row) (done : List Text) (d : Text) (ds : List Text) → TakesDoors app.top → has_row (codes "door") rows ≡ false → list_all is_plain_text ds ≡ true
-      → check_fault app.top (rows ++ door_rows (done ++ d ∷ ds)) false ≡ []
-      → read_from (after_door (rows ++ door_rows done) d) ds ≡ ([], rows ++ door_rows (done ++ d ∷ ds))
-  doors_read rows done d [] t none plain check =
-      ends (after_door (rows ++ door_rows done) d) (rows ++ door_rows (done ++ d ∷ [])) t refl (simp t.by_id refl) (simp t.by_id (door_added rows done d none)) check
-  doors_read rows done d ([] ∷ ds) t none plain check = absurd (true≢false (sym plain))
-  doors_read rows done d ((b ∷ bs) ∷ ds) t none plain check =
+  doors_read : (rows : List Row) (done : List Text) (d : Text) (ds : List Text) (all : List Row) → TakesDoors app.top → has_row (codes "door") rows ≡ false → list_all is_plain_text ds ≡ true
+      → IsCompleted app.top (rows ++ door_rows (done ++ d ∷ ds)) all
+      → read_from (after_door (rows ++ door_rows done) d) ds ≡ ([], all)
+  doors_read rows done d [] all t none plain complete =
+      ends (after_door (rows ++ door_rows done) d) (rows ++ door_rows (done ++ d ∷ [])) all t.again refl (simp t.by_id refl) (simp t.by_id (door_added rows done d none)) complete
+  doors_read rows done d ([] ∷ ds) all t none plain complete = absurd (true≢false (sym plain))
+  doors_read rows done d ((b ∷ bs) ∷ ds) all t none plain complete =
       let parts = both _ _ plain in
-      let all : (done ++ d ∷ []) ++ (b ∷ bs) ∷ ds ≡ done ++ d ∷ (b ∷ bs) ∷ ds = append_assoc done (d ∷ []) ((b ∷ bs) ∷ ds) in
+      let whole : (done ++ d ∷ []) ++ (b ∷ bs) ∷ ds ≡ done ++ d ∷ (b ∷ bs) ∷ ds = append_assoc done (d ∷ []) ((b ∷ bs) ∷ ds) in
       next_door rows done d b bs ds t (is_false _ parts.0) none
-      ∙ doors_read rows (done ++ d ∷ []) (b ∷ bs) ds t none parts.1 (rw all check)
-      ∙ ap (λ es. ([], rows ++ door_rows es)) all
+      ∙ doors_read rows (done ++ d ∷ []) (b ∷ bs) ds all t none parts.1 (subst (λ es. IsCompleted app.top (rows ++ door_rows es) all) (sym whole) complete)
 
   -- the DOORs after the options
-  rest_read : (held : List Row) (pending : Option (Text × List Text)) (rows : List Row) (ds : List Text) → TakesDoors app.top
+  rest_read : (held : List Row) (pending : Option (Text × List Text)) (rows : List Row) (ds : List Text) (all : List Row)
+      → app.top.args_override_self ≡ false → TakesThese app.top ds
       → settle_fault app.top.rules false (after_option held pending).held ≡ [] → settled_rows app.top.rules pending held ≡ rows → has_row (codes "door") rows ≡ false
-      → list_all is_plain_text ds ≡ true → check_fault app.top (rows ++ door_rows ds) false ≡ []
-      → read_from (after_option held pending) ds ≡ ([], rows ++ door_rows ds)
-  rest_read held pending rows [] t none is no_door plain check =
-      ends (after_option held pending) (rows ++ []) t refl none (is ∙ sym (append-nil rows)) check
-  rest_read held pending rows ([] ∷ ds) t none is no_door plain check = absurd (true≢false (sym plain))
-  rest_read held pending rows ((b ∷ bs) ∷ ds) t none is no_door plain check =
+      → list_all is_plain_text ds ≡ true → IsCompleted app.top (rows ++ door_rows ds) all
+      → read_from (after_option held pending) ds ≡ ([], all)
+  rest_read held pending rows [] all again t none is no_door plain complete =
+      ends (after_option held pending) (rows ++ []) all again refl none (is ∙ sym (append-nil rows)) complete
+  rest_read held pending rows ([] ∷ ds) all again t none is no_door plain complete = absurd (true≢false (sym plain))
+  rest_read held pending rows ((b ∷ bs) ∷ ds) all again t none is no_door plain complete =
       let parts = both _ _ plain in
       first_door held pending rows b bs ds t (is_false _ parts.0) none is
       ∙ ap (λ rs. read_from (after_door rs (b ∷ bs)) ds) (sym (append-nil rows))
-      ∙ doors_read rows [] (b ∷ bs) ds t no_door parts.1 check
+      ∙ doors_read rows [] (b ∷ bs) ds all t no_door parts.1 complete
 
   option_read : (held : List Row) (pending : Option (Text × List Text)) (rows : List Row) (name value : Text) (is_joined : Bool) (words : List Text) (answer : Kinds × List Row)
       → app.top.args_override_self ≡ false → IsOption app.top.rules name → has_row name rows ≡ false
@@ -374,59 +404,95 @@ module _ (app : App) where
       let further = within name among in
       ((still_among o.name table name further.0).0, ap (has_row name) (sym all) ∙ further.1)) none'' (is'' ∙ all)))
 
-  -- plain words are taken, and have a row for each option and one for the DOORs
-  pub plain_taken : (table : List Text) (p : Plain) → TakesDoors app.top → ((name : Text) → is_among table name ≡ true → IsOption app.top.rules name) → is_plain table p ≡ true
-      → check_fault app.top (map option_row p.options ++ door_rows p.doors) false ≡ []
-      → read_from (walk_from nothing_held) (plain_words p) ≡ ([], map option_row p.options ++ door_rows p.doors)
-  plain_taken table p t known plain check =
+  -- plain words without a flag are taken, and have a row for each option and one for the DOORs, with the defaults behind them
+  completed_taken : (table : List Text) (p : Plain) (all : List Row) → app.top.args_override_self ≡ false → TakesThese app.top p.doors
+      → ((name : Text) → is_among table name ≡ true → IsOption app.top.rules name) → is_plain table p ≡ true
+      → IsCompleted app.top (map option_row p.options ++ door_rows p.doors) all
+      → read_from (walk_from nothing_held) (plain_words p) ≡ ([], all)
+  completed_taken table p all again t known plain complete =
       let parts = both (is_each_once table p.options) _ plain in
       let texts = both (list_all (λ (o : Given). is_plain_text o.value) p.options) _ parts.1 in
-      options_read table p.options [] [] None [] p.doors ([], map option_row p.options ++ door_rows p.doors) t.again (λ name among. (known name among, refl)) refl refl
+      options_read table p.options [] [] None [] p.doors ([], all) again (λ name among. (known name among, refl)) refl refl
       (rw append-nil parts.0) texts.0
       (λ left held pending within none is once.
-      rest_read held pending (map option_row p.options) p.doors t none is
-      (no_row (codes "door") p.options (none_is (codes "door") table p.options (λ name among. (known name among).no_door) parts.0)) texts.1 check)
+      rest_read held pending (map option_row p.options) p.doors all again t none is
+      (no_row (codes "door") p.options (none_is (codes "door") table p.options (λ name among. (known name among).no_door) parts.0)) texts.1 complete)
 
-  -- plain words with a flag are taken
-  pub flag_taken : (table : List Text) (name : Text) (before behind : List Given) → TakesFlag app.top table name → is_each_once table (before ++ behind) ≡ true
-      → list_all (λ (o : Given). is_plain_text o.value) (before ++ behind) ≡ true
-      → read_from (walk_from nothing_held) (flat_map written before ++ (codes "--" ++ name) ∷ flat_map written behind)
-      ≡ ([], map option_row before ++ flag_row name ∷ map option_row behind)
-  flag_taken table name before behind t once texts =
+  -- where the command gives no argument a default
+  pub plain_taken : (table : List Text) (p : Plain) → TakesDoors app.top → list_all (λ (a : Rule). is_empty a.defaults) app.top.rules ≡ true
+      → ((name : Text) → is_among table name ≡ true → IsOption app.top.rules name) → is_plain table p ≡ true
+      → check_fault app.top (map option_row p.options ++ door_rows p.doors) false ≡ []
+      → read_from (walk_from nothing_held) (plain_words p) ≡ ([], map option_row p.options ++ door_rows p.doors)
+  plain_taken table p t defaults known plain check =
+      let rows : List Row = map option_row p.options ++ door_rows p.doors in
+      completed_taken table p rows t.again (takes_these t p.doors) known plain
+      (record { fault = no_default_fault rows app.top.rules defaults; defaults = no_defaults rows app.top.rules defaults; check = check })
+
+  -- words with a flag are taken
+  flag_taken : (table : List Text) (name : Text) (before behind : List Given) (ds : List Text) → TakesFlag app.top table name → TakesThese app.top ds
+      → is_each_once table (before ++ behind) ≡ true → list_all (λ (o : Given). is_plain_text o.value) (before ++ behind) ≡ true → list_all is_plain_text ds ≡ true
+      → read_from (walk_from nothing_held) (flat_map written before ++ (codes "--" ++ name) ∷ (flat_map written behind ++ ds))
+      ≡ ([], map option_row before ++ flag_row name ∷ (map option_row behind ++ door_rows ds))
+  flag_taken table name before behind ds t doors once texts plain =
       let rows : List Row = map option_row before ++ flag_row name ∷ [] in
-      let all : List Row = map option_row before ++ flag_row name ∷ map option_row behind in
-      let whole : rows ++ map option_row behind ≡ all = append_assoc (map option_row before) (flag_row name ∷ []) (map option_row behind) in
-      options_read table before behind [] None [] ((codes "--" ++ name) ∷ flat_map written behind) ([], all) t.again (λ option among. (t.options option among, refl)) refl refl once (each_of before behind texts).0
+      let all : List Row = map option_row before ++ flag_row name ∷ (map option_row behind ++ door_rows ds) in
+      let whole : (rows ++ map option_row behind) ++ door_rows ds ≡ all =
+      append_assoc rows (map option_row behind) (door_rows ds) ∙ append_assoc (map option_row before) (flag_row name ∷ []) (map option_row behind ++ door_rows ds) in
+      let parts = each_of (λ (o : Given). is_plain_text o.value) before behind texts in
+      let no_flags = none_of name table before behind (λ option among. (t.others option among).0) once in
+      let no_doors = none_of (codes "door") table before behind (λ option among. (t.options option among).no_door) once in
+      options_read table before behind [] None [] ((codes "--" ++ name) ∷ (flat_map written behind ++ ds)) ([], all) t.again (λ option among. (t.options option among, refl)) refl refl once parts.0
       (λ left held pending within none is once'.
-      flag_next held pending (map option_row before) name (flat_map written behind) t.flag t.again none is (before_has_none before behind once)
-      ∙ ap (read_from (after_option rows None)) (sym (append-nil (flat_map written behind)))
-      ∙ options_read left behind [] rows None rows [] ([], all) t.again
+      flag_next held pending (map option_row before) name (flat_map written behind ++ ds) t.flag t.again none is (no_row name before no_flags.0)
+      ∙ options_read left behind [] rows None rows ds ([], all) t.again
       (λ option among.
       let inside = within option among in
       (t.options option inside.0, has_row_added option (map option_row before) (flag_row name) inside.1 (t.others option inside.0).1)) refl refl
-      (rw append-nil once') (each_of before behind texts).1
+      (rw append-nil once') parts.1
       (λ left' held' pending' within' none' is' once''.
-      let given = t.given all (has_row_there name (map option_row before) (flag_row name) (map option_row behind) ((bytes_eq-Decides name name).1 refl)) in
-      ends_with (after_option held' pending') all all t.again refl none' (is' ∙ whole) given.0 given.1 (t.check all)))
-    where
-      before_has_none : (before behind : List Given) → is_each_once table (before ++ behind) ≡ true → has_row name (map option_row before) ≡ false
-      before_has_none before behind once = no_row name before (none_is name table before (λ option among. (t.others option among).0) (once_of table before behind once))
+      let given = t.given all (has_row_there name (map option_row before) (flag_row name) (map option_row behind ++ door_rows ds) ((bytes_eq-Decides name name).1 refl)) in
+      let no_door : has_row (codes "door") (rows ++ map option_row behind) ≡ false =
+      no_row_behind (codes "door") rows (map option_row behind)
+      (has_row_added (codes "door") (map option_row before) (flag_row name) (no_row (codes "door") before no_doors.0) t.no_door.0) (no_row (codes "door") behind no_doors.1) in
+      rest_read held' pending' (rows ++ map option_row behind) ds all t.again doors none' is' no_door plain
+      (subst (λ rs. IsCompleted app.top rs all) (sym whole) (record { fault = given.0; defaults = given.1; check = t.check all }))))
 
   -- and without it, where it has its default
-  pub no_flag_taken : (table : List Text) (name : Text) (options : List Given) → TakesFlag app.top table name → is_each_once table options ≡ true
-      → list_all (λ (o : Given). is_plain_text o.value) options ≡ true
-      → read_from (walk_from nothing_held) (flat_map written options) ≡ ([], map option_row options ++ no_flag_row name ∷ [])
-  no_flag_taken table name options t once texts =
-      let left_out = t.left_out (map option_row options) (no_row name options (none_is name table options (λ option among. (t.others option among).0) once)) in
-      ap (read_from (walk_from nothing_held)) (sym (append-nil (flat_map written options)))
-      ∙ options_read table options [] [] None [] [] ([], map option_row options ++ no_flag_row name ∷ []) t.again (λ option among. (t.options option among, refl)) refl refl (rw append-nil once) texts
-      (λ left held pending within none is once'.
-      ends_with (after_option held pending) (map option_row options) (map option_row options ++ no_flag_row name ∷ []) t.again refl none is left_out.0 left_out.1 (t.check (map option_row options ++ no_flag_row name ∷ [])))
+  no_flag_taken : (table : List Text) (name : Text) (p : Plain) → TakesFlag app.top table name → TakesThese app.top p.doors → is_plain table p ≡ true
+      → read_from (walk_from nothing_held) (plain_words p) ≡ ([], (map option_row p.options ++ door_rows p.doors) ++ no_flag_row name ∷ [])
+  no_flag_taken table name p t doors plain =
+      let rows : List Row = map option_row p.options ++ door_rows p.doors in
+      let left_out = t.left_out rows (no_flag_among table name p t plain) in
+      completed_taken table p (rows ++ no_flag_row name ∷ []) t.again doors t.options plain
+      (record { fault = left_out.0; defaults = left_out.1; check = t.check (rows ++ no_flag_row name ∷ []) })
+
+  -- plain words of a command with a flag are taken
+  pub flagged_taken : (table : List Text) (name : Text) (p : Flagged) → TakesFlag app.top table name → TakesThese app.top p.doors → is_plain table (without_flag p) ≡ true
+      → read_from (walk_from nothing_held) (flagged_words name p) ≡ ([], flagged_rows name p)
+  flagged_taken table name p t doors plain = go p.is_given
+    where
+      before : List Text
+      before = flat_map written p.before
+
+      behind : List Text
+      behind = flat_map written p.behind
+
+      go : (b : Bool) → read_from (walk_from nothing_held) (flagged_words name (record p { is_given = b })) ≡ ([], flagged_rows name (record p { is_given = b }))
+      go true =
+          let parts = both (is_each_once table (p.before ++ p.behind)) _ plain in
+          let texts = both (list_all (λ (o : Given). is_plain_text o.value) (p.before ++ p.behind)) _ parts.1 in
+          ap (read_from (walk_from nothing_held))
+          (append_assoc (before ++ (codes "--" ++ name) ∷ []) behind p.doors ∙ append_assoc before ((codes "--" ++ name) ∷ []) (behind ++ p.doors))
+          ∙ flag_taken table name p.before p.behind p.doors t doors parts.0 texts.0 texts.1
+      go false =
+          ap (λ words. read_from (walk_from nothing_held) (words ++ p.doors))
+          (ap (λ words. words ++ behind) (append-nil before) ∙ sym (flat_map-append written p.before p.behind))
+          ∙ no_flag_taken table name (without_flag p) t doors plain
 
 -- ---- what is read of the rows
 
 -- the value of an option, where other rows are behind those of these options
-pub value_among : (name : Text) (options others : List Given) (rows : List Row) → first_of name rows ≡ value_given name others
+value_among : (name : Text) (options others : List Given) (rows : List Row) → first_of name rows ≡ value_given name others
     → first_of name (map option_row options ++ rows) ≡ value_given name (options ++ others)
 value_among name [] others rows behind = behind
 value_among name (o ∷ options) others rows behind = go (bytes_eq o.name name) (value_among name options others rows behind)
@@ -446,18 +512,87 @@ value_in_rows name options ds other = value_among name options [] (door_rows ds)
     no_door [] = refl
     no_door (d ∷ ds) = rw other refl
 
--- the value of a row that is there, behind others
-pub value_there : (id : Text) (front : List Row) (r : Row) (rows : List Row) → has_row id front ≡ false → bytes_eq r.id id ≡ true → first_of id (front ++ r ∷ rows) ≡ slice_get r.values 0
-value_there id [] r rows none same = rw same refl
-value_there id (x ∷ front) r rows none same =
-    let parts = neither (bytes_eq x.id id) (has_row id front) none in
-    rw parts.0 (value_there id front r rows parts.1 same)
-
 -- the DOORs
 pub doors_in_rows : (options : List Given) (ds : List Text) → list_all (λ (o : Given). not (bytes_eq o.name (codes "door"))) options ≡ true
-    → unwrap_or (all_of (codes "door") (map option_row options ++ door_rows ds)) [] ≡ ds
+    → doors_in (map option_row options ++ door_rows ds) ≡ ds
 doors_in_rows [] [] others = refl
 doors_in_rows [] (d ∷ ds) others = refl
 doors_in_rows (o ∷ options) ds others =
     let parts = both (not (bytes_eq o.name (codes "door"))) _ others in
     rw (is_false _ parts.0) (doors_in_rows options ds parts.1)
+
+-- rows of other ids in front are passed over
+found_behind : (id : Text) (front rows : List Row) → has_row id front ≡ false
+    → find (λ (r : Row). bytes_eq r.id id) (front ++ rows) ≡ find (λ (r : Row). bytes_eq r.id id) rows
+found_behind id [] rows none = refl
+found_behind id (x ∷ front) rows none =
+    let parts = neither (bytes_eq x.id id) (has_row id front) none in
+    rw parts.0 (found_behind id front rows parts.1)
+
+-- and one behind is not found
+found_before : (id : Text) (rows : List Row) (r : Row) → bytes_eq r.id id ≡ false
+    → find (λ (x : Row). bytes_eq x.id id) (rows ++ r ∷ []) ≡ find (λ (x : Row). bytes_eq x.id id) rows
+found_before id [] r other = rw other refl
+found_before id (x ∷ rows) r other = ap (cond (bytes_eq x.id id) (Some x)) (found_before id rows r other)
+
+abbrev first_value : Option Row → Option Text
+first_value = option_and_then (λ (r : Row). slice_get r.values 0)
+
+abbrev values_found : Option Row → List Text
+values_found found = unwrap_or (option_map (λ (r : Row). r.values) found) []
+
+-- an option's value is not touched by a flag's row
+pub value_in_flagged : (id name : Text) (p : Flagged) → bytes_eq name id ≡ false → bytes_eq (codes "door") id ≡ false
+    → first_of id (flagged_rows name p) ≡ value_given id (p.before ++ p.behind)
+value_in_flagged id name p other no_door = go p.is_given
+  where
+    go : (b : Bool) → first_of id (flagged_rows name (record p { is_given = b })) ≡ value_given id (p.before ++ p.behind)
+    go true =
+        value_among id p.before p.behind (flag_row name ∷ (map option_row p.behind ++ door_rows p.doors))
+        (rw other (value_in_rows id p.behind p.doors no_door))
+    go false =
+        ap first_value (found_before id (map option_row (p.before ++ p.behind) ++ door_rows p.doors) (no_flag_row name) other)
+        ∙ value_in_rows id (p.before ++ p.behind) p.doors no_door
+
+-- whether the flag is given
+pub flag_in_flagged : {s : Shape} (table : List Text) (name : Text) (p : Flagged) → TakesFlag s table name → is_plain table (without_flag p) ≡ true
+    → is_given (first_of name (flagged_rows name p)) ≡ p.is_given
+flag_in_flagged table name p t plain = go p.is_given
+  where
+    once : is_each_once table (p.before ++ p.behind) ≡ true
+    once = (both (is_each_once table (p.before ++ p.behind)) _ plain).0
+
+    same : bytes_eq name name ≡ true
+    same = (bytes_eq-Decides name name).1 refl
+
+    go : (b : Bool) → is_given (first_of name (flagged_rows name (record p { is_given = b }))) ≡ b
+    go true =
+        ap (λ found. is_given (first_value found))
+        (found_behind name (map option_row p.before) (flag_row name ∷ (map option_row p.behind ++ door_rows p.doors))
+        (no_row name p.before (none_of name table p.before p.behind (λ option among. (t.others option among).0) once).0))
+        ∙ rw same refl
+    go false =
+        ap (λ found. is_given (first_value found))
+        (found_behind name (map option_row (p.before ++ p.behind) ++ door_rows p.doors) (no_flag_row name ∷ []) (no_flag_among table name (without_flag p) t plain))
+        ∙ rw same refl
+
+-- and the DOORs
+pub doors_in_flagged : {s : Shape} (table : List Text) (name : Text) (p : Flagged) → TakesFlag s table name → is_plain table (without_flag p) ≡ true
+    → doors_in (flagged_rows name p) ≡ p.doors
+doors_in_flagged table name p t plain = go p.is_given
+  where
+    once : is_each_once table (p.before ++ p.behind) ≡ true
+    once = (both (is_each_once table (p.before ++ p.behind)) _ plain).0
+
+    no_option : (id : Text) → is_among table id ≡ true → bytes_eq id (codes "door") ≡ false
+    no_option id among = (t.options id among).no_door
+
+    go : (b : Bool) → doors_in (flagged_rows name (record p { is_given = b })) ≡ p.doors
+    go true =
+        let none = none_of (codes "door") table p.before p.behind no_option once in
+        ap values_found
+        (found_behind (codes "door") (map option_row p.before) (flag_row name ∷ (map option_row p.behind ++ door_rows p.doors)) (no_row (codes "door") p.before none.0))
+        ∙ rw t.no_door.0 (doors_in_rows p.behind p.doors none.1)
+    go false =
+        ap values_found (found_before (codes "door") (map option_row (p.before ++ p.behind) ++ door_rows p.doors) (no_flag_row name) t.no_door.0)
+        ∙ doors_in_rows (p.before ++ p.behind) p.doors (none_is (codes "door") table (p.before ++ p.behind) no_option once)

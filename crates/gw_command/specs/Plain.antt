@@ -76,42 +76,45 @@ replay_options = codes "controller" ∷ codes "workers" ∷ []
 abbrev pub plain_replay : Plain → Option ReplayWords
 plain_replay p = replay_by (value_given (codes "controller") p.options) (value_given (codes "workers") p.options) p.doors
 
--- What stands in plain words of `generate`: its options with a value, and whether `--run` stands between them. It has no DOORs.
-pub record PlainGenerate : Type 0 where
+-- What stands in plain words of a command with a flag: its options with a value, whether the flag is given between them, and its DOORs.
+pub record Flagged : Type 0 where
   pub before : List Given
-  pub runs : Bool
+  pub is_given : Bool
   pub behind : List Given
+  pub doors : List (List ℕ)
 
--- The words, after the command.
-abbrev pub plain_generate_words : PlainGenerate → List (List ℕ)
-plain_generate_words p = flat_map written p.before ++ (if p.runs then codes "--run" ∷ [] else []) ++ flat_map written p.behind
+-- The words, after the command, where the flag has this name.
+abbrev pub flagged_words : List ℕ → Flagged → List (List ℕ)
+flagged_words flag p =
+    flat_map written p.before ++ (if p.is_given then (codes "--" ++ flag) ∷ [] else []) ++ flat_map written p.behind ++ p.doors
 
--- What they are without `--run`.
-abbrev pub without_run : PlainGenerate → Plain
-without_run p = record { options = p.before ++ p.behind; doors = [] }
+-- What they are without the flag.
+abbrev pub without_flag : Flagged → Plain
+without_flag p = record { options = p.before ++ p.behind; doors = p.doors }
 
 -- The options of `generate` that have a value.
 abbrev pub generate_options : List (List ℕ)
 generate_options = codes "seed" ∷ codes "routes" ∷ codes "requests" ∷ []
 
 -- What plain words give `generate`.
-abbrev pub plain_generate : PlainGenerate → Option GenerateWords
+abbrev pub plain_generate : Flagged → Option GenerateWords
 plain_generate p =
     generate_by (value_given (codes "seed") (p.before ++ p.behind)) (value_given (codes "routes") (p.before ++ p.behind))
-    (value_given (codes "requests") (p.before ++ p.behind)) p.runs
+    (value_given (codes "requests") (p.before ++ p.behind)) p.is_given
 
--- The options of `serve`.
+-- The options of `serve` that have a value.
 abbrev pub serve_options : List (List ℕ)
 serve_options = codes "controller" ∷ codes "workers" ∷ codes "conns" ∷ codes "admin" ∷ []
 
 -- What plain words give `serve`.
-abbrev pub plain_serve : Plain → Option ServeWords
+abbrev pub plain_serve : Flagged → Option ServeWords
 plain_serve p =
-    serve_by (value_given (codes "controller") p.options) (value_given (codes "workers") p.options) (value_given (codes "conns") p.options)
-    (value_given (codes "admin") p.options) p.doors
+    serve_by (value_given (codes "controller") (p.before ++ p.behind)) (value_given (codes "workers") (p.before ++ p.behind))
+    (value_given (codes "conns") (p.before ++ p.behind)) (value_given (codes "admin") (p.before ++ p.behind)) p.is_given p.doors
 
--- Plain words are read as they stand: an option's value is the one after its name, and what follows the options are
--- DOORs. So only a value can make them wrong, or that a request, an admin socket, or a number of a script is wanting.
+-- Plain words are read as they stand: an option's value is the one after its name, a flag is given where its name stands, and what
+-- follows the options are DOORs, of which `generate` has none. So only a value can make them wrong, or that a request, an admin socket,
+-- or a number of a script is wanting.
 pub record ReadsPlain (words : List (List ℕ)) : Type 0 where
   pub status : (p : Plain) → is_plain status_options p ≡ true → words ≡ codes "status" ∷ plain_words p
       → command_of words ≡ option_map status (plain_status p)
@@ -119,7 +122,7 @@ pub record ReadsPlain (words : List (List ℕ)) : Type 0 where
       → command_of words ≡ option_map explain (plain_explain p)
   pub replay : (p : Plain) → is_plain replay_options p ≡ true → words ≡ codes "replay" ∷ plain_words p
       → command_of words ≡ option_map replay (plain_replay p)
-  pub generate : (p : PlainGenerate) → is_plain generate_options (without_run p) ≡ true → words ≡ codes "generate" ∷ plain_generate_words p
-      → command_of words ≡ option_map generate (plain_generate p)
-  pub serve : (p : Plain) → is_plain serve_options p ≡ true → words ≡ codes "serve" ∷ plain_words p
+  pub generate : (p : Flagged) → p.doors ≡ [] → is_plain generate_options (without_flag p) ≡ true
+      → words ≡ codes "generate" ∷ flagged_words (codes "run") p → command_of words ≡ option_map generate (plain_generate p)
+  pub serve : (p : Flagged) → is_plain serve_options (without_flag p) ≡ true → words ≡ codes "serve" ∷ flagged_words (codes "polled") p
       → command_of words ≡ option_map serve (plain_serve p)

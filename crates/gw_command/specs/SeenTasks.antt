@@ -8,4 +8,4 @@ seen_task Status = a_status
 seen_task (Explanation at q) = an_explanation at q
 seen_task (Replay workers) = a_replay workers
 seen_task (Generate words) = a_generation words
-seen_task (Serve workers conns admin) = a_service workers conns admin
+seen_task (Serve workers conns admin polled) = a_service workers conns admin polled

@@ -1,5 +1,5 @@
 -- What the program is set to do by its words, and why it doesn't begin.
-use Rattle.std.specs.Prelude.{◌≡◌, ℕ, ◌*◌, ◌<◌, ◌≤◌, ⊤, List, [], length, Option, Some, None, option_map, Result, Ok, Err}
+use Rattle.std.specs.Prelude.{◌≡◌, ℕ, Bool, ◌*◌, ◌<◌, ◌≤◌, ⊤, List, [], length, Option, Some, None, option_map, Result, Ok, Err}
 use Rattle.gw_text.specs.model.Addresses.{Socket}
 use Rattle.gw_text.specs.model.Doors.{Door, DoorFault as DoorRule, too_many_doors, two_addresses, door_twice, door_fault}
 use Rattle.gw_frames.specs.model.Requests.{Request}
@@ -10,13 +10,13 @@ use Rattle.gw_command.specs.declared.fault.Fault.TheVariants.{Usage, TooManyDoor
 
 -- What is written of the objects: their statuses, what becomes of a request at the door of this number, or what the
 -- connections of a script are served by so many workers. Or a script is written, or run. Or connections are served: by so many workers at each door, by jobs that end
--- after so many accepts, where they do, with the admin endpoint at this socket.
+-- after so many accepts, where they do, with the admin endpoint at this socket; the last says whether the connections are polled.
 pub data Task : Type 0 where
   a_status : Task
   an_explanation : ℕ → Request → Task
   a_replay : ℕ → Task
   a_generation : GenerateWords → Task
-  a_service : ℕ → Option ℕ → Socket → Task
+  a_service : ℕ → Option ℕ → Socket → Bool → Task
 
 -- The name of the controller whose classes are ours, the doors, and the task.
 pub record Setting : Type 0 where
@@ -31,7 +31,7 @@ IsWithin a_status doors = ⊤
 IsWithin (an_explanation at q) doors = at < length doors
 IsWithin (a_replay workers) doors = (0 < workers) × (workers ≤ most_workers)
 IsWithin (a_generation words) doors = (0 < words.routes) × (words.routes ≤ most_routes) × (words.requests ≤ most_requests)
-IsWithin (a_service workers conns admin) doors = (0 < workers) × (workers * length doors ≤ most_workers)
+IsWithin (a_service workers conns admin polled) doors = (0 < workers) × (workers * length doors ≤ most_workers)
 
 -- Connections are served, and no input is read.
 abbrev pub IsService : Task → Type 0
@@ -39,7 +39,7 @@ IsService a_status = ⊥
 IsService (an_explanation at q) = ⊥
 IsService (a_replay workers) = ⊥
 IsService (a_generation words) = ⊥
-IsService (a_service workers conns admin) = ⊤
+IsService (a_service workers conns admin polled) = ⊤
 
 -- A script is written, or run, and no input is read.
 abbrev pub IsGeneration : Task → Type 0
@@ -47,7 +47,7 @@ IsGeneration a_status = ⊥
 IsGeneration (an_explanation at q) = ⊥
 IsGeneration (a_replay workers) = ⊥
 IsGeneration (a_generation words) = ⊤
-IsGeneration (a_service workers conns admin) = ⊥
+IsGeneration (a_service workers conns admin polled) = ⊥
 
 -- The fault of doors that break a rule.
 abbrev pub broken : DoorRule → Fault
@@ -75,7 +75,7 @@ StartsBy (Some (explain words)) start =
     × (start ≡ with_task words.controller words.doors (option_map (an_explanation words.at) q))
 StartsBy (Some (replay words)) start = start ≡ with_task words.controller words.doors (Some (a_replay words.workers))
 StartsBy (Some (generate words)) start = start ≡ with_task default_controller [] (Some (a_generation words))
-StartsBy (Some (serve words)) start = start ≡ with_task words.controller words.doors (Some (a_service words.workers words.conns words.admin))
+StartsBy (Some (serve words)) start = start ≡ with_task words.controller words.doors (Some (a_service words.workers words.conns words.admin words.polled))
 
 -- The start of the words that follow the program's name, which is one only: they must be a command's, and then the doors must break no rule.
 unfoldable pub Starts : List (List ℕ) → Result Setting Fault → Type 0

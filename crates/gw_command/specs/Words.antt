@@ -26,13 +26,14 @@ pub record ReplayWords : Type 0 where
   pub workers : ℕ
   pub doors : List Door
 
--- What `serve` is given: how many workers each door has, after how many accepts a job ends, where it does, and the socket of the admin
--- endpoint.
+-- What `serve` is given: how many workers each door has, after how many accepts a job ends, where it does, the socket of the admin
+-- endpoint, and whether its connections are polled, many at once by each worker.
 pub record ServeWords : Type 0 where
   pub controller : List ℕ
   pub workers : ℕ
   pub conns : Option ℕ
   pub admin : Socket
+  pub polled : Bool
   pub doors : List Door
 
 -- What `generate` is given: the seed of a script, of how many Routes and of how many requests it is, and whether it is run.
@@ -88,11 +89,15 @@ generate_app =
     with_rule (with_rule (with_rule (with_rule (new_app (codes "generate")) (value_rule (codes "seed")))
     (value_rule (codes "routes"))) (value_rule (codes "requests"))) (flag_rule (codes "run"))
 
--- The options of `serve`: [--controller TEXT] [--workers N] [--conns N] --admin SOCKET
-abbrev pub serve_options_app : App
-serve_options_app =
+-- The options of `serve` that have a value: [--controller TEXT] [--workers N] [--conns N] --admin SOCKET
+abbrev pub serve_values_app : App
+serve_values_app =
     with_rule (with_rule (with_rule (with_rule (new_app (codes "serve")) (value_rule (codes "controller")))
     (value_rule (codes "workers"))) (value_rule (codes "conns"))) (value_rule (codes "admin"))
+
+-- The options of `serve`: those, and [--polled]
+abbrev pub serve_options_app : App
+serve_options_app = with_rule serve_values_app (flag_rule (codes "polled"))
 
 -- The words of `serve`: its options, and [DOOR]...
 abbrev pub serve_app : App
@@ -246,19 +251,20 @@ admin_by given = given >>= loopback_of
 abbrev pub are_few : ℕ → ℕ → Bool
 are_few workers doors = not (nat_lt most_workers (workers * doors))
 
--- What `serve` is given by the values of its options and the words of its DOORs.
-unfoldable pub serve_by : Option (List ℕ) → Option (List ℕ) → Option (List ℕ) → Option (List ℕ) → List (List ℕ) → Option ServeWords
-serve_by controller workers conns admin doors = do
+-- What `serve` is given by the values of its options, by whether its flag is given, and by the words of its DOORs.
+unfoldable pub serve_by : Option (List ℕ) → Option (List ℕ) → Option (List ℕ) → Option (List ℕ) → Bool → List (List ℕ) → Option ServeWords
+serve_by controller workers conns admin polled doors = do
   workers ← workers_by workers
   conns ← conns_by conns
   admin ← admin_by admin
   doors ← doors_of doors
-  if are_few workers (length doors) then Some (record { controller = controller_by controller; workers = workers; conns = conns; admin = admin; doors = doors }) else None
+  if are_few workers (length doors) then Some (record { controller = controller_by controller; workers = workers; conns = conns; admin = admin; polled = polled; doors = doors }) else None
 
 -- What `serve` is given by what clap found.
 abbrev pub serve_in : List Row → Option ServeWords
 serve_in rows =
-    serve_by (first_of (codes "controller") rows) (first_of (codes "workers") rows) (first_of (codes "conns") rows) (first_of (codes "admin") rows) (doors_in rows)
+    serve_by (first_of (codes "controller") rows) (first_of (codes "workers") rows) (first_of (codes "conns") rows) (first_of (codes "admin") rows)
+    (is_given (first_of (codes "polled") rows)) (doors_in rows)
 
 -- What `serve` is given by its words.
 unfoldable pub serve_of : List (List ℕ) → Option ServeWords

@@ -34,13 +34,16 @@ impl Model for Setting {
 }
 
 impl Setting {
-    /// Where it is set to serve: how many workers each door has, after how many accepts a job ends, and the socket of the admin endpoint.
-    pub fn service(&self) -> Option<(usize, Option<u32>, Socket)>
-        ensures some { IfSome result (λ s. self.now.task ≡ a_service s.0 s.1 s.2) }
+    /// Where it is set to serve: how many workers each door has, after how many accepts a job ends, the socket of the admin endpoint, and
+    /// whether connections are polled.
+    pub fn service(&self) -> Option<(usize, Option<u32>, Socket, bool)>
+        ensures some { IfSome result (λ s. self.now.task ≡ a_service s.0 s.1 s.2 s.3) }
         ensures none { result ≡ None → IsService self.now.task → ⊥ }
     {
         match &self.task {
-            Task::Serve(workers, conns, admin) => Some((*workers, *conns, *admin)),
+            Task::Serve(workers, conns, admin, polled) => {
+                Some((*workers, *conns, *admin, *polled))
+            }
             _ => None,
         }
     }
@@ -80,7 +83,7 @@ pub fn start(alloc: Global, words: &[String]) -> Result<Setting, Fault>
         }
         Ok(Command::Generate(words)) => generation(alloc, words),
         Ok(Command::Serve(words)) => {
-            let task = Task::Serve(words.workers, words.conns, words.admin);
+            let task = Task::Serve(words.workers, words.conns, words.admin, words.polled);
             with_doors(alloc, words.controller, words.doors, task)
         }
         Err(UsageFault::Usage) => Err(Fault::Usage),

@@ -14,6 +14,6 @@ pub enum Task {
     /// A script is written, or run.
     Generate(GenerateWords),
     /// The connections of all doors are served, by so many workers each, with jobs that end after so many accepts, or never; the objects
-    /// come to the admin endpoint at this socket.
-    Serve(usize, Option<u32>, Socket),
+    /// come to the admin endpoint at this socket. The last is whether the connections are polled, many at once by each worker.
+    Serve(usize, Option<u32>, Socket, bool),
 }

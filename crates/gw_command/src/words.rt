@@ -136,7 +136,7 @@ impl Model for GenerateWords {
     ghost view = { λ s. record { seed = s.seed; routes = s.routes; requests = s.requests; runs = s.runs } };
 }
 
-/// What `serve` is given: `[--controller TEXT] [--workers N] [--conns N] --admin SOCKET [DOOR]...`.
+/// What `serve` is given: `[--controller TEXT] [--workers N] [--conns N] --admin SOCKET [--polled] [DOOR]...`.
 #[derive(Drop)]
 pub struct ServeWords {
     /// The controller of the GatewayClasses that are this program's.
@@ -147,6 +147,8 @@ pub struct ServeWords {
     pub conns: Option<u32>,
     /// The loopback socket of the admin endpoint.
     pub admin: Socket,
+    /// Whether its connections are polled, many at once by each worker.
+    pub polled: bool,
     /// The DOORs, in the order in which they are given.
     pub doors: Vec<Door>,
 }
@@ -156,7 +158,7 @@ impl Model for ServeWords {
 
     ghost Value = { Plain };
 
-    ghost view = { λ s. record { controller = s.controller; workers = s.workers; conns = s.conns; admin = s.admin; doors = s.doors.items } };
+    ghost view = { λ s. record { controller = s.controller; workers = s.workers; conns = s.conns; admin = s.admin; polled = s.polled; doors = s.doors.items } };
 }
 
 /// A command with what it is given.
@@ -292,6 +294,14 @@ fn serve_command<'a>(alloc: Global) -> Result<clap::Command<'a>, AllocError>
 fn serve_options<'a>(alloc: Global) -> Result<clap::Command<'a>, AllocError>
     ensures { IfOk result (λ c. app_of c ≡ words_of.serve_options_app) }
 {
+    let command = serve_values(alloc)?;
+    command.arg(flag(alloc, "polled"))
+}
+
+// The command without its DOORs and its flag.
+fn serve_values<'a>(alloc: Global) -> Result<clap::Command<'a>, AllocError>
+    ensures { IfOk result (λ c. app_of c ≡ words_of.serve_values_app) }
+{
     clap::Command::new(alloc, "serve")
         .arg(value(alloc, "controller"))?
         .arg(value(alloc, "workers"))?
@@ -418,6 +428,7 @@ fn serve_words(alloc: Global, matches: &ArgMatches<'_>) -> Result<ServeWords, Us
         workers,
         conns,
         admin,
+        polled: is_given(matches, "polled"),
         doors,
     })
 }

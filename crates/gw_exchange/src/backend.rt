@@ -134,8 +134,8 @@ fn buffer_of<'b>(first: &'b mut [u8], more: &'b mut Vec<u8>, given: usize) -> &'
     first
 }
 
-// What the bytes of a response come to with this piece behind them; an empty piece is their end.
-fn step_of(reader: &mut ReplyReader, piece: &[u8]) -> Result<ReplyStep, NoMemory>
+/// What the bytes of a response come to with this piece behind them; an empty piece is their end.
+pub fn step_of(reader: &mut ReplyReader, piece: &[u8]) -> Result<ReplyStep, NoMemory>
     requires { reader.old.over ≡ false }
     ensures answers { IfOk result (λ step. (head : Bool) (bytes : List ℕ) → StandsFor head reader.old bytes None
         → ResponseOf head (bytes ++ piece.now) (length piece.now == 0) (seen step)) }

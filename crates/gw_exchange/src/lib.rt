@@ -4,5 +4,5 @@
 mod backend;
 mod fault;
 
-pub use backend::{MOST_GIVEN, MOST_PIECE, exchange};
+pub use backend::{MOST_GIVEN, MOST_PIECE, exchange, step_of};
 pub use fault::ExchangeFault;

@@ -9,46 +9,48 @@ use gw_shared::{Shared, SharedList};
 use gw_text::{Key, NoMemory};
 use std::alloc::Global;
 
-// A copy of the list with this one at the place.
+// The list with this one at the place.
 fn with_one<T: Drop>(
     alloc: Global,
-    list: &SharedList<T>,
+    mut list: SharedList<T>,
     place: Place,
     value: Shared<T>,
 ) -> Result<SharedList<T>, NoMemory>
-    requires { rules.behind place ≤ length list.now }
-    ensures { IfOk result (λ changed. changed ≡ rules.with_at place (option_to_list (Some value)) list.now) }
+    requires { rules.behind place ≤ length list }
+    ensures { IfOk result (λ changed. changed ≡ rules.with_at place (option_to_list (Some value)) list) }
 {
     if place.is_taken {
-        return list.with_put(alloc, place.at, value);
+        list.put(alloc, place.at, value)?;
+        return Ok(list);
     }
-    list.with_inserted(alloc, place.at, value)
+    list.insert(alloc, place.at, value)?;
+    Ok(list)
 }
 
-// A copy without what stands at the place.
+// The list without what stands at the place.
 fn with_none<T: Drop>(
     alloc: Global,
-    list: &SharedList<T>,
+    mut list: SharedList<T>,
     place: Place,
 ) -> Result<SharedList<T>, NoMemory>
-    requires { rules.behind place ≤ length list.now }
-    ensures { IfOk result (λ changed. changed ≡ rules.with_at place (option_to_list None) list.now) }
+    requires { rules.behind place ≤ length list }
+    ensures { IfOk result (λ changed. changed ≡ rules.with_at place (option_to_list None) list) }
 {
     if place.is_taken {
-        return list.without(alloc, place.at);
+        list.remove(alloc, place.at)?;
     }
-    list.share(alloc)
+    Ok(list)
 }
 
-/// A copy of the list with this at the place, in place of what stands there if it is taken.
+/// The list with this at the place, in place of what stands there if it is taken.
 pub fn with_at<T: Drop>(
     alloc: Global,
-    list: &SharedList<T>,
+    list: SharedList<T>,
     place: Place,
     value: Option<Shared<T>>,
 ) -> Result<SharedList<T>, NoMemory>
-    requires { rules.behind place ≤ length list.now }
-    ensures { IfOk result (λ changed. changed ≡ rules.with_at place (option_to_list value) list.now) }
+    requires { rules.behind place ≤ length list }
+    ensures { IfOk result (λ changed. changed ≡ rules.with_at place (option_to_list value) list) }
 {
     match value {
         Some(value) => with_one(alloc, list, place, value),
@@ -56,18 +58,18 @@ pub fn with_at<T: Drop>(
     }
 }
 
-/// A copy of the list with this under the key, and nothing else there.
+/// The list with this under the key, and nothing else there.
 pub fn replaced<T: Kept + Drop>(
     alloc: Global,
-    list: &SharedList<T>,
+    list: SharedList<T>,
     key: &Key,
     value: Option<Shared<T>>,
 ) -> Result<SharedList<T>, NoMemory>
-    requires order { rules.IsInOrder T.key_of list.now }
+    requires order { rules.IsInOrder T.key_of list }
     requires own { IfSome value (λ x. T.key_of x ≡ key.now) }
     ensures order { IfOk result (λ changed. rules.IsInOrder T.key_of changed) }
-    ensures found { IfOk result (λ changed. (k : PlainKey) → rules.kept_at T.key_of k changed ≡ (if same_key key.now k then value else rules.kept_at T.key_of k list.now)) }
+    ensures found { IfOk result (λ changed. (k : PlainKey) → rules.kept_at T.key_of k changed ≡ (if same_key key.now k then value else rules.kept_at T.key_of k list)) }
 {
-    let place = place_in(list, key);
+    let place = place_in(&list, key);
     with_at(alloc, list, place, value)
 }

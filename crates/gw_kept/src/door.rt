@@ -49,20 +49,18 @@ impl HeldDoor {
 
     /// The door with the rows of a Route at the place of each table, or with none there.
     pub(crate) fn changed(
-        &self,
+        self,
         alloc: Global,
         place: Place,
         kept: Option<&KeptRoute>,
     ) -> Result<Self, NoMemory>
         requires plans { IfSome (option_copied kept) held.HasItsPlans }
-        requires tables { All (held.Takes place self.now.door (option_to_list (option_copied kept))) self.now.tables }
-        ensures { IfOk result (λ changed. changed ≡ held.door_with place (option_to_list (option_copied kept.entry)) self.now) }
+        requires tables { All (held.Takes place self.door (option_to_list (option_copied kept))) self.tables }
+        ensures { IfOk result (λ changed. changed ≡ held.door_with place (option_to_list (option_copied kept.entry)) self) }
     {
-        let tables = changed_tables(alloc, &self.door, self.tables.as_slice(), place, kept)?;
-        Ok(HeldDoor {
-            door: self.door.share()?,
-            tables,
-        })
+        let HeldDoor { door, tables } = self;
+        let tables = changed_tables(alloc, &door, tables, place, kept)?;
+        Ok(HeldDoor { door, tables })
     }
 }
 
@@ -83,13 +81,13 @@ pub(crate) fn shared_tables(
 fn changed_tables(
     alloc: Global,
     door: &Door,
-    tables: &[Shared<ListenerTable>],
+    tables: Vec<Shared<ListenerTable>>,
     place: Place,
     kept: Option<&KeptRoute>,
 ) -> Result<Vec<Shared<ListenerTable>>, NoMemory>
     requires plans { IfSome (option_copied kept) held.HasItsPlans }
-    requires tables { All (held.Takes place door.now (option_to_list (option_copied kept))) tables.now }
-    ensures { IfOk result (λ changed. changed.items ≡ map (held.table_with place door.now (option_to_list (option_copied kept.entry))) tables.now) }
+    requires tables { All (held.Takes place door.now (option_to_list (option_copied kept))) tables.items }
+    ensures { IfOk result (λ changed. changed.items ≡ map (held.table_with place door.now (option_to_list (option_copied kept.entry))) tables.items) }
 {
     let mut changed = Vec::with_capacity(alloc, tables.len())?;
     'tables: for table in tables {

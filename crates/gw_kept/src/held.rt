@@ -29,7 +29,7 @@ use std::sync::Arc;
 use std::sync::ledger::Ledger;
 
 /// What is kept of all Routes for a controller of some name, with their statuses, how many are attached to each listener, and the tables of
-/// the served listeners of doors. A changed copy shares with it all but what the change touches.
+/// the served listeners of doors. What is changed shares with its copies all but what the change touches.
 pub struct KeptRoutes {
     controller: Arc<Text>,
     kept: SharedList<KeptRoute>,
@@ -105,13 +105,13 @@ fn doors_without_listeners(alloc: Global, doors: &Doors) -> Result<Vec<HeldDoor>
 // The doors with the rows of a Route at the place, or with none there.
 fn changed_doors(
     alloc: Global,
-    doors: &[HeldDoor],
+    doors: Vec<HeldDoor>,
     place: Place,
     kept: Option<&KeptRoute>,
 ) -> Result<Vec<HeldDoor>, NoMemory>
     requires plans { IfSome (option_copied kept) rules.HasItsPlans }
-    requires tables { All (λ d. All (rules.Takes place d.door (option_to_list (option_copied kept))) d.tables) doors.now }
-    ensures { IfOk result (λ all. all.items ≡ map (rules.door_with place (option_to_list (option_copied kept.entry))) doors.now) }
+    requires tables { All (λ d. All (rules.Takes place d.door (option_to_list (option_copied kept))) d.tables) doors.items }
+    ensures { IfOk result (λ all. all.items ≡ map (rules.door_with place (option_to_list (option_copied kept.entry))) doors.items) }
 {
     let mut all = Vec::with_capacity(alloc, doors.len())?;
     'doors: for door in doors {
@@ -175,36 +175,44 @@ impl KeptRoutes {
         self.statuses.share(alloc)
     }
 
-    // A copy with this under the key, and nothing else there.
+    // The same with this under the key, and nothing else there.
     fn with(
-        &self,
+        self,
         alloc: Global,
         key: &Key,
-        kept: Option<Shared<KeptRoute>>,
+        value: Option<Shared<KeptRoute>>,
     ) -> Result<Self, NoMemory>
-        requires own { IfSome kept (λ k. rules.kept_route_key k ≡ key.now) }
-        requires evaluated { IfSome kept (rules.IsEvaluated self.now.controller) }
+        requires own { IfSome value (λ k. rules.kept_route_key k ≡ key.now) }
+        requires evaluated { IfSome value (rules.IsEvaluated self.controller) }
         ensures found { IfOk result (λ k. (other : PlainKey) → places.kept_at rules.kept_route_key other k.kept
-            ≡ (if same_key key.now other then kept else places.kept_at rules.kept_route_key other self.now.kept)) }
-        ensures same { IfOk result (λ k. k ≡ record self.now { kept = k.kept }) }
+            ≡ (if same_key key.now other then value else places.kept_at rules.kept_route_key other self.kept)) }
+        ensures same { IfOk result (λ k. k ≡ record self { kept = k.kept }) }
     {
-        let place = place_in(&self.kept, key);
-        let fresh = value_of(&kept);
-        let counts = changed_counts(alloc, &self.counts, former(&self.kept, place), fresh)?;
-        let doors = changed_doors(alloc, self.doors.as_slice(), place, fresh)?;
-        let statuses = with_at(alloc, &self.statuses, place, status_of(&kept)?)?;
+        let KeptRoutes {
+            controller,
+            kept,
+            statuses,
+            counts,
+            doors,
+        } = self;
+        let place = place_in(&kept, key);
+        let fresh = value_of(&value);
+        let counts = changed_counts(alloc, &counts, former(&kept, place), fresh)?;
+        let doors = changed_doors(alloc, doors, place, fresh)?;
+        let statuses = with_at(alloc, statuses, place, status_of(&value)?)?;
+        let kept = with_at(alloc, kept, place, value)?;
         Ok(KeptRoutes {
-            controller: self.controller.clone()?,
-            kept: with_at(alloc, &self.kept, place, kept)?,
+            controller,
+            kept,
             statuses,
             counts,
             doors,
         })
     }
 
-    /// A copy in which the Route of this key is evaluated in this world: none where it isn't held there.
+    /// The same, where the Route of this key is evaluated in this world: none where it isn't held there.
     pub fn with_route<L: Ledger>(
-        &self,
+        self,
         alloc: Global,
         world: &World,
         doors: &Doors,
@@ -212,38 +220,46 @@ impl KeptRoutes {
         steps: &mut Steps<L>,
     ) -> Result<Self, NoMemory>
         ensures found { IfOk result (λ k. (other : PlainKey) → places.kept_at rules.kept_route_key other k.kept
-            ≡ (if same_key key.now other then kept_route_at self.now.controller world.now.world key.now else places.kept_at rules.kept_route_key other self.now.kept)) }
-        ensures same { IfOk result (λ k. k ≡ record self.now { kept = k.kept }) }
+            ≡ (if same_key key.now other then kept_route_at self.controller world.now.world key.now else places.kept_at rules.kept_route_key other self.kept)) }
+        ensures same { IfOk result (λ k. k ≡ record self { kept = k.kept }) }
         ensures steps { steps.new ≡ steps.old + 1 }
     {
         let kept = eval_kept_route(alloc, world, doors, &self.controller, key, steps)?;
         self.with(alloc, key, kept)
     }
 
-    /// A copy in which the doors of the Gateway of this key have the listeners that are served there in this world.
+    /// The same, where the doors of the Gateway of this key have the listeners that are served there in this world.
     pub fn with_gateway(
-        &self,
+        self,
         alloc: Global,
         world: &World,
         doors: &Doors,
         gateway: &Key,
     ) -> Result<Self, NoMemory>
-        ensures { IfOk result (λ k. k ≡ record self.now { doors = map (rules.served_anew doors.now self.now.controller world.now.world gateway.now) self.now.doors }) }
+        ensures { IfOk result (λ k. k ≡ record self { doors = map (rules.served_anew doors.now self.controller world.now.world gateway.now) self.doors }) }
     {
+        let KeptRoutes {
+            controller,
+            kept,
+            statuses,
+            counts,
+            doors: held,
+        } = self;
+        let held = doors_anew(
+            alloc,
+            world,
+            doors,
+            &controller,
+            gateway,
+            held.as_slice(),
+            &kept,
+        )?;
         Ok(KeptRoutes {
-            controller: self.controller.clone()?,
-            kept: self.kept.share(alloc)?,
-            statuses: self.statuses.share(alloc)?,
-            counts: self.counts.share(alloc)?,
-            doors: doors_anew(
-                alloc,
-                world,
-                doors,
-                &self.controller,
-                gateway,
-                self.doors.as_slice(),
-                &self.kept,
-            )?,
+            controller,
+            kept,
+            statuses,
+            counts,
+            doors: held,
         })
     }
 

@@ -45,53 +45,65 @@ fn stays_without_rows(table: &ListenerTable, place: Place, rows: &RouteRows) -> 
     }
 }
 
+// The table itself, where nothing else has it, and else a copy.
+fn own_table(alloc: Global, table: Shared<ListenerTable>) -> Result<ListenerTable, NoMemory>
+    ensures { IfOk result (λ own. own ≡ table) }
+{
+    match table.into_own() {
+        Ok(own) => Ok(own),
+        Err(table) => table.copy(alloc),
+    }
+}
+
 // The table with these rows at the place.
 fn with_rows(
     alloc: Global,
-    table: &Shared<ListenerTable>,
+    table: Shared<ListenerTable>,
     place: Place,
     rows: RouteRows,
 ) -> Result<Shared<ListenerTable>, NoMemory>
-    requires within { places.behind place ≤ length table.now.routes }
-    requires rows { rules.AreRowsOf table.now.listener (rules.rows_in (places.with_at place (rows ∷ []) table.now.routes)) }
-    ensures { IfOk result (λ changed. changed ≡ record table.now { routes = places.with_at place (rows ∷ []) table.now.routes }) }
+    requires within { places.behind place ≤ length table.routes }
+    requires rows { rules.AreRowsOf table.listener (rules.rows_in (places.with_at place (rows ∷ []) table.routes)) }
+    ensures { IfOk result (λ changed. changed ≡ record table { routes = places.with_at place (rows ∷ []) table.routes }) }
 {
-    if stays_without_rows(table, place, &rows) {
-        return table.share();
+    if stays_without_rows(&table, place, &rows) {
+        return Ok(table);
     }
+    let own = own_table(alloc, table)?;
     if place.is_taken {
-        return Shared::new(alloc, table.with_put(alloc, place.at, rows)?);
+        return Shared::new(alloc, own.with_put(alloc, place.at, rows)?);
     }
-    Shared::new(alloc, table.with_inserted(alloc, place.at, rows)?)
+    Shared::new(alloc, own.with_inserted(alloc, place.at, rows)?)
 }
 
 // The table without the rows at the place.
 fn without_rows(
     alloc: Global,
-    table: &Shared<ListenerTable>,
+    table: Shared<ListenerTable>,
     place: Place,
 ) -> Result<Shared<ListenerTable>, NoMemory>
-    requires { places.behind place ≤ length table.now.routes }
-    ensures { IfOk result (λ changed. changed ≡ record table.now { routes = places.with_at place [] table.now.routes }) }
+    requires { places.behind place ≤ length table.routes }
+    ensures { IfOk result (λ changed. changed ≡ record table { routes = places.with_at place [] table.routes }) }
 {
-    if place.is_taken {
-        return Shared::new(alloc, table.without(alloc, place.at)?);
+    if !place.is_taken {
+        return Ok(table);
     }
-    table.share()
+    let own = own_table(alloc, table)?;
+    Shared::new(alloc, own.without(alloc, place.at)?)
 }
 
 /// The table of a listener of the door, with the rows of a Route at the place, or with none there.
 pub(crate) fn changed_table(
     alloc: Global,
     door: &Door,
-    table: &Shared<ListenerTable>,
+    table: Shared<ListenerTable>,
     place: Place,
     kept: Option<&KeptRoute>,
 ) -> Result<Shared<ListenerTable>, NoMemory>
-    requires within { places.behind place ≤ length table.now.routes }
+    requires within { places.behind place ≤ length table.routes }
     requires plans { IfSome (option_copied kept) held.HasItsPlans }
-    requires rows { rules.AreRowsOf table.now.listener (rules.rows_in (held.routes_with place door.now (option_to_list (option_copied kept)) table.now)) }
-    ensures { IfOk result (λ changed. changed ≡ held.table_with place door.now (option_to_list (option_copied kept.entry)) table.now) }
+    requires rows { rules.AreRowsOf table.listener (rules.rows_in (held.routes_with place door.now (option_to_list (option_copied kept)) table)) }
+    ensures { IfOk result (λ changed. changed ≡ held.table_with place door.now (option_to_list (option_copied kept.entry)) table) }
 {
     match kept {
         Some(kept) => {

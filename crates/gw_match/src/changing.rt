@@ -59,23 +59,20 @@ fn stand_for(rows: &[Shared<Row>], former: &[Shared<Row>]) -> bool
     true
 }
 
-/// The cells with these rows in place of those that a Route had. All other cells are shared, and a cell is copied once where its row
-/// has the place of a former one.
-pub(crate) fn changed_cells(
+/// Puts these rows in place of those that a Route had. A cell is copied once where its row has the place of a former one. Where memory is
+/// wanted, use the cells no more.
+pub(crate) fn change_cells(
     alloc: Global,
-    cells: &Cells,
+    cells: &mut Cells,
     former: &[Shared<Row>],
     rows: &[Shared<Row>],
-) -> Result<Cells, NoMemory>
-    ensures { (others : List Plain) → AreCellsOf (former.now ++ others) cells.now → AreApart (rows.now ++ others)
-        → IfOk result (λ changed. AreCellsOf (rows.now ++ others) changed) }
+) -> Result<(), NoMemory>
+    ensures { (others : List Plain) → AreCellsOf (former.now ++ others) cells.old → AreApart (rows.now ++ others)
+        → OnOk result (AreCellsOf (rows.now ++ others) cells.new) }
 {
-    let mut changed = cells.share(alloc)?;
     if stand_for(rows, former) {
-        add_all(alloc, &mut changed, rows)?;
-        return Ok(changed);
+        return add_all(alloc, cells, rows);
     }
-    take_out_all(alloc, &mut changed, former)?;
-    add_all(alloc, &mut changed, rows)?;
-    Ok(changed)
+    take_out_all(alloc, cells, former)?;
+    add_all(alloc, cells, rows)
 }

@@ -5,7 +5,7 @@ ghost use Rattle.gw_rows.specs.model.Fitting.{fits};
 ghost use Rattle.gw_rows.specs.model.Precedence.{precedence};
 ghost use Rattle.gw_rows.specs.model.Rows.{foremost};
 
-use crate::changing::{cells_of, changed_cells};
+use crate::changing::{cells_of, change_cells};
 use crate::handles::push_all;
 use crate::route_rows::RouteRows;
 use gw_cells::Cells;
@@ -17,8 +17,8 @@ use std::alloc::Global;
 use std::marker::Model;
 use std::sync::ledger::Ledger;
 
-/// The rows of a listener, Route by Route, and in cells in which the one that serves a request is found. A changed copy shares with it
-/// all but what the change touches.
+/// The rows of a listener, Route by Route, and in cells in which the one that serves a request is found. What is changed shares with its
+/// copies all but what the change touches.
 #[derive(Drop)]
 pub struct ListenerTable {
     listener: Shared<ServedListener>,
@@ -35,6 +35,16 @@ impl Model for ListenerTable {
     ghost view = { λ t. record { listener = t.listener; routes = t.routes } };
 
     ghost invariant = { λ t. AreRowsOf t.listener (rows_in t.routes) × AreCellsOf (rows_in t.routes) t.cells };
+}
+
+// A handle on each row of the Route of this place.
+fn rows_at(routes: &SharedList<RouteRows>, at: usize) -> &[Shared<Row>]
+    ensures { result.now ≡ slice_index_or routes.now at [] }
+{
+    match routes.get(at) {
+        Some(rows) => rows.as_slice(),
+        None => &[],
+    }
 }
 
 impl ListenerTable {
@@ -88,55 +98,72 @@ impl ListenerTable {
         self.routes.get(at)
     }
 
-    // A handle on each of them.
-    fn rows_at(&self, at: usize) -> &[Shared<Row>]
-        ensures { result.now ≡ slice_index_or self.now.routes at [] }
+    /// A copy, which shares all.
+    pub fn copy(&self, alloc: Global) -> Result<Self, NoMemory>
+        ensures { IfOk result (λ copy. copy ≡ self.now) }
     {
-        match self.rows_of(at) {
-            Some(rows) => rows.as_slice(),
-            None => &[],
-        }
-    }
-
-    /// A copy in which the Route of this place has these rows.
-    pub fn with_put(&self, alloc: Global, at: usize, rows: RouteRows) -> Result<Self, NoMemory>
-        requires within { at < length self.now.routes }
-        requires rows { rules.AreRowsOf self.now.listener (rules.rows_in (rules.with_put at rows self.now.routes)) }
-        ensures { IfOk result (λ t. t ≡ record self.now { routes = rules.with_put at rows self.now.routes }) }
-    {
-        let cells = changed_cells(alloc, &self.cells, self.rows_at(at), rows.as_slice())?;
-        let rows = Shared::new(alloc, rows)?;
         Ok(ListenerTable {
             listener: self.listener.share()?,
-            routes: self.routes.with_put(alloc, at, rows)?,
+            routes: self.routes.share(alloc)?,
+            cells: self.cells.share(alloc)?,
+        })
+    }
+
+    /// The table in which the Route of this place has these rows.
+    pub fn with_put(self, alloc: Global, at: usize, rows: RouteRows) -> Result<Self, NoMemory>
+        requires within { at < length self.routes }
+        requires rows { rules.AreRowsOf self.listener (rules.rows_in (rules.with_put at rows self.routes)) }
+        ensures { IfOk result (λ t. t ≡ record self { routes = rules.with_put at rows self.routes }) }
+    {
+        let ListenerTable {
+            listener,
+            mut routes,
+            mut cells,
+        } = self;
+        change_cells(alloc, &mut cells, rows_at(&routes, at), rows.as_slice())?;
+        routes.put(alloc, at, Shared::new(alloc, rows)?)?;
+        Ok(ListenerTable {
+            listener,
+            routes,
             cells,
         })
     }
 
-    /// A copy with one Route more, before the one of this place or at the end.
-    pub fn with_inserted(&self, alloc: Global, at: usize, rows: RouteRows) -> Result<Self, NoMemory>
-        requires within { at ≤ length self.now.routes }
-        requires rows { rules.AreRowsOf self.now.listener (rules.rows_in (rules.with_inserted at rows self.now.routes)) }
-        ensures { IfOk result (λ t. t ≡ record self.now { routes = rules.with_inserted at rows self.now.routes }) }
+    /// The table with one Route more, before the one of this place or at the end.
+    pub fn with_inserted(self, alloc: Global, at: usize, rows: RouteRows) -> Result<Self, NoMemory>
+        requires within { at ≤ length self.routes }
+        requires rows { rules.AreRowsOf self.listener (rules.rows_in (rules.with_inserted at rows self.routes)) }
+        ensures { IfOk result (λ t. t ≡ record self { routes = rules.with_inserted at rows self.routes }) }
     {
-        let cells = changed_cells(alloc, &self.cells, &[], rows.as_slice())?;
-        let rows = Shared::new(alloc, rows)?;
+        let ListenerTable {
+            listener,
+            mut routes,
+            mut cells,
+        } = self;
+        change_cells(alloc, &mut cells, &[], rows.as_slice())?;
+        routes.insert(alloc, at, Shared::new(alloc, rows)?)?;
         Ok(ListenerTable {
-            listener: self.listener.share()?,
-            routes: self.routes.with_inserted(alloc, at, rows)?,
+            listener,
+            routes,
             cells,
         })
     }
 
-    /// A copy without the Route of this place.
-    pub fn without(&self, alloc: Global, at: usize) -> Result<Self, NoMemory>
-        requires { at < length self.now.routes }
-        ensures { IfOk result (λ t. t ≡ record self.now { routes = rules.without at self.now.routes }) }
+    /// The table without the Route of this place.
+    pub fn without(self, alloc: Global, at: usize) -> Result<Self, NoMemory>
+        requires { at < length self.routes }
+        ensures { IfOk result (λ t. t ≡ record self { routes = rules.without at self.routes }) }
     {
-        let cells = changed_cells(alloc, &self.cells, self.rows_at(at), &[])?;
+        let ListenerTable {
+            listener,
+            mut routes,
+            mut cells,
+        } = self;
+        change_cells(alloc, &mut cells, rows_at(&routes, at), &[])?;
+        routes.remove(alloc, at)?;
         Ok(ListenerTable {
-            listener: self.listener.share()?,
-            routes: self.routes.without(alloc, at)?,
+            listener,
+            routes,
             cells,
         })
     }
@@ -155,7 +182,7 @@ impl ListenerTable {
         ensures { OnOk result (all.new.items ≡ all.old.items ++ rules.rows_in self.now.routes) }
     {
         'routes: for at in 0..self.len() {
-            push_all(all, self.rows_at(at))?;
+            push_all(all, rows_at(&self.routes, at))?;
         }
         Ok(())
     }

@@ -1,21 +1,19 @@
-ghost use Rattle.std.specs.Prelude.{◌≡◌, ℕ, ◌<◌, ◌≤◌, ◌==◌, List, [], ◌++◌, Bool, true, false, None, Some, length, IfOk, IfSome, OnOk, is_some};
+ghost use Rattle.std.specs.Prelude.{◌≡◌, ℕ, ◌<◌, ◌≤◌, List, [], Bool, true, None, Some, length, is_some};
 ghost use Rattle.futures.specs.Poll.{IfReady, OnPending};
 ghost use Rattle.futures.specs.Task.{Keeps as KeepsTask};
 ghost use Rattle.gw_text.specs.model.Addresses.{Socket as Address};
-ghost use Rattle.gw_exchange.specs.Exchanged.{ComesTo, IsCallFault, IsRefused};
+ghost use Rattle.gw_exchange.specs.Exchanged.{IsCallFault, IsRefused};
 ghost use Rattle.gw_exchange.specs.declared.backend.TheConstants.{MOST_PIECE};
 ghost use Rattle.gw_link.specs.Exchanges.{Exchange};
 ghost use Rattle.gw_link.specs.Faults.{HasRisen};
 ghost use Rattle.gw_polling.specs.Polls.{CountsWaits, IsRegistered, HasNoMark, NoneCame};
-ghost use Rattle.gw_replies.specs.model.Responses.{ResponseOf};
-ghost use Rattle.gw_replies.specs.Replies.{StandsFor as ReaderStandsFor, given, seen};
 ghost use Rattle.gw_poll_exchange.specs.Polled.{StandsFor, IsJoined, GoesOn, IsOver, Reads, ReadsOn, ReadsTo};
 
 use futures::task::{Context, Poll};
-use gw_exchange::{ExchangeFault, MOST_PIECE};
+use gw_exchange::{ExchangeFault, MOST_PIECE, step_of};
 use gw_polling::{PollUpstream, send_on};
 use gw_replies::{BackendFault, ReplyReader, ReplyStep, Response};
-use gw_text::{NoMemory, Socket, Text};
+use gw_text::{Socket, Text};
 use std::alloc::Global;
 
 /// An exchange with a backend that is polled: how far it came.
@@ -262,33 +260,4 @@ fn receive<U: PollUpstream>(
             Err(_) => return Poll::Ready(Err(ExchangeFault::NoMemory)),
         }
     }
-}
-
-// What the bytes of a response come to with this piece behind them; an empty piece is their end.
-fn step_of(reader: &mut ReplyReader, piece: &[u8]) -> Result<ReplyStep, NoMemory>
-    requires { reader.old.over ≡ false }
-    ensures answers { IfOk result (λ step. (head : Bool) (bytes : List ℕ) → ReaderStandsFor head reader.old bytes None
-        → ResponseOf head (bytes ++ piece.now) (length piece.now == 0) (seen step)) }
-    ensures settles { IfOk result (λ step. (head : Bool) (bytes : List ℕ) → ReaderStandsFor head reader.old bytes None
-        → IfSome (given (seen step)) (ComesTo head (bytes ++ piece.now) (length piece.now == 0))) }
-    ensures stands { result ≡ Ok ReplyStep.Need → (head : Bool) (bytes : List ℕ) → ReaderStandsFor head reader.old bytes None
-        → ReaderStandsFor head reader.new (bytes ++ piece.now) None }
-    ensures over { OnOk result (reader.new.over ≡ (length piece.now == 0)) }
-{
-    take_piece(reader, piece)?;
-    reader.next()
-}
-
-// Takes a piece, of which an empty one is the end.
-fn take_piece(reader: &mut ReplyReader, piece: &[u8]) -> Result<(), NoMemory>
-    requires { reader.old.over ≡ false }
-    ensures stands { OnOk result ((head : Bool) (bytes : List ℕ) → ReaderStandsFor head reader.old bytes None
-        → ReaderStandsFor head reader.new (bytes ++ piece.now) None) }
-    ensures over { OnOk result (reader.new.over ≡ (length piece.now == 0)) }
-{
-    if piece.is_empty() {
-        reader.finish();
-        return Ok(());
-    }
-    reader.feed(piece)
 }

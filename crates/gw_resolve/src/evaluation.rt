@@ -57,13 +57,13 @@ fn doors_after(
     alloc: Global,
     world: &World,
     doors: &Doors,
-    former: &KeptRoutes,
+    former: KeptRoutes,
     touched: &Touched,
 ) -> Result<KeptRoutes, NoMemory>
-    requires { All (λ d. has_key d.door.gateway touched.now.gateways ≡ false → d ≡ served_door doors.now former.now.controller world.now.world d.door) former.now.doors }
-    ensures { IfOk result (λ r. r ≡ record former.now { doors = map (λ d. served_door doors.now former.now.controller world.now.world d.door) former.now.doors }) }
+    requires { All (λ d. has_key d.door.gateway touched.now.gateways ≡ false → d ≡ served_door doors.now former.controller world.now.world d.door) former.doors }
+    ensures { IfOk result (λ r. r ≡ record former { doors = map (λ d. served_door doors.now former.controller world.now.world d.door) former.doors }) }
 {
-    let mut kept = former.share(alloc)?;
+    let mut kept = former;
     'gateways: for gateway in touched.gateways.as_slice() {
         kept = kept.with_gateway(alloc, world, doors, gateway)?;
     }
@@ -101,7 +101,7 @@ fn gateways_after<L: Ledger>(
     let mut all = former.share(alloc)?;
     'keys: for key in touched.gateways.as_slice() {
         let status = kept.gateway_status(alloc, world, doors, key, steps)?;
-        all = replaced(alloc, &all, key, share_status(alloc, status)?)?;
+        all = replaced(alloc, all, key, share_status(alloc, status)?)?;
     }
     // Both stand in key order, so they are one where they tell the same of each key.
     let _gateways = world.gateways();
@@ -130,7 +130,7 @@ pub(crate) fn evaluate<L: Ledger>(
     ensures steps { OnOk result (steps.new ≡ steps.old + (length touched.now.routes + length touched.now.gateways)) }
 {
     let routes = routes_after(alloc, world, doors, former, touched, steps)?;
-    let kept = doors_after(alloc, world, doors, &routes, touched)?;
+    let kept = doors_after(alloc, world, doors, routes, touched)?;
     let statuses = Statuses {
         classes: class_statuses(alloc, controller, world)?,
         gateways: gateways_after(alloc, world, doors, &kept, gateways, touched, steps)?,

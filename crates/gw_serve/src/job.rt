@@ -1,11 +1,13 @@
-//! Jobs that serve the connections of an acceptor, one after another.
+//! Jobs: those that serve the connections of an acceptor, one after another, and those whose connections are polled.
 ghost use Rattle.std.specs.Prelude.{◌≡◌, ◌<◌, [], false, length, IfSome};
 
+use crate::polled::PolledJob;
 use gw_admin::admin_next;
 use gw_edge::{Acceptor, Next, Work};
 use gw_hub::{Hub, HubName};
 use gw_link::{Clock, Upstream};
 use gw_match::Tables;
+use gw_polling::{PollLink, PollUpstream, Ring};
 use gw_snap::Pass;
 use gw_worker::{Worker, serve_next};
 use std::alloc::Global;
@@ -40,9 +42,19 @@ pub struct ProxyJob<A: Acceptor, U: Upstream> {
 
 /// A job of `serve`.
 #[derive(Drop)]
-pub enum Job<A: Acceptor, U: Upstream, C: Clock + Drop, N: HubName, R: Wait + Drop> {
+pub enum Job<
+    A: Acceptor,
+    U: Upstream,
+    K: PollLink,
+    V: PollUpstream,
+    G: Ring<Link = K, Up = V>,
+    C: Clock + Drop,
+    N: HubName,
+    R: Wait + Drop,
+> {
     Admin(AdminJob<A, C, N, R>),
     Proxy(ProxyJob<A, U>),
+    Polled(PolledJob<K, V, G>),
 }
 
 // Who takes connections in turn.
@@ -105,8 +117,16 @@ fn serve_each<S: Serving, W: Wait>(rt: &W, job: &mut S, conns: Option<u32>) {
     }
 }
 
-impl<A: Acceptor, U: Upstream, C: Clock + Drop, N: HubName, R: Wait + Drop> Work
-    for Job<A, U, C, N, R> {
+impl<
+    A: Acceptor,
+    U: Upstream,
+    K: PollLink,
+    V: PollUpstream,
+    G: Ring<Link = K, Up = V>,
+    C: Clock + Drop,
+    N: HubName,
+    R: Wait + Drop,
+> Work for Job<A, U, K, V, G, C, N, R> {
     fn work<W: Wait>(self, rt: &W) {
         match self {
             Job::Admin(mut job) => {
@@ -117,6 +137,7 @@ impl<A: Acceptor, U: Upstream, C: Clock + Drop, N: HubName, R: Wait + Drop> Work
                 let conns = job.conns;
                 serve_each(rt, &mut job, conns);
             }
+            Job::Polled(job) => job.serve(rt),
         }
     }
 }

@@ -4,8 +4,10 @@
 mod fault;
 mod job;
 mod jobs;
+mod polled;
 mod serving;
 
 pub use fault::ServeFault;
 pub use job::{AdminJob, Job, ProxyJob};
+pub use polled::PolledJob;
 pub use serving::{READY, Service, serve};

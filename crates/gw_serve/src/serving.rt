@@ -10,10 +10,12 @@ use gw_edge::{Acceptor, Crew, Edge, EdgeFault, Work, start};
 use gw_hub::{Controller, Hub, HubName};
 use gw_link::{Clock, Link, Sink, Upstream, write_all};
 use gw_match::Tables;
+use gw_polling::{PollEdge, PollLink, PollUpstream, Ring};
 use gw_snap::{Passes, SnapFaults};
 use gw_text::{Door, Doors, NoMemory, Socket, Text};
-use std::alloc::Global;
+use std::alloc::{AllocGlobal, Global};
 use std::marker::Brand;
+use std::random::RandomSource;
 use std::sync::{Arc, Wait};
 use std::thread::Threads;
 
@@ -32,15 +34,18 @@ pub struct Service {
     pub workers: usize,
     /// After how many accepts a job ends. None: it doesn't end.
     pub conns: Option<u32>,
+    /// Whether the connections of the doors are polled, so that each worker serves many at once.
+    pub polled: bool,
 }
 
-// Where connections come, how many workers each door has, and after how many accepts a job ends.
+// Where connections come, how many workers each door has, after how many accepts a job ends, and whether the connections are polled.
 #[derive(Drop)]
 struct Sockets {
     admin: Socket,
     doors: Vec<Socket>,
     workers: usize,
     conns: Option<u32>,
+    polled: bool,
 }
 
 /// Serves the admin endpoint and the connections of all doors: opens a controller, binds the sockets, says that it is ready, starts
@@ -49,11 +54,14 @@ pub fn serve<
     L: Link + Send + 'static,
     A: Acceptor<Conn = L> + Send + 'static,
     U: Upstream + Send + 'static,
-    E: Edge<Accept = A, Up = U>,
+    P: PollLink + Send + 'static,
+    V: PollUpstream + Send + 'static,
+    G: Ring<Link = P, Up = V> + Send + 'static,
+    E: PollEdge<Accept = A, Up = U, Ring = G>,
     W: Crew,
     C: Clock + Drop + Send + 'static,
     K: Sink,
-    R: Wait + Threads + Clone + Drop + Send + Sync + 'static,
+    R: Wait + Threads + RandomSource + AllocGlobal + Clone + Drop + Send + Sync + 'static,
 >(
     rt: &R,
     alloc: Global,
@@ -92,17 +100,19 @@ pub fn serve<
         admin,
         workers,
         conns,
+        polled,
     } = service;
     let sockets = Sockets {
         admin,
         doors: sockets_of(alloc, doors.doors())?,
         workers,
         conns,
+        polled,
     };
     let places = 1 + workers * doors.doors().len();
     let theirs = rt.clone()?;
     let (controller, passes) = Controller::open(alloc, theirs, snap, doors, controller, places)?;
-    serve_opened::<L, A, U, E, W, C, K, Brand, R>(
+    serve_opened::<L, A, U, P, V, G, E, W, C, K, Brand, R>(
         rt, alloc, controller, passes, sockets, sink, clock, edge, crew,
     )
 }
@@ -123,12 +133,15 @@ fn serve_opened<
     L: Link + Send + 'static,
     A: Acceptor<Conn = L> + Send + 'static,
     U: Upstream + Send + 'static,
-    E: Edge<Accept = A, Up = U>,
+    P: PollLink + Send + 'static,
+    V: PollUpstream + Send + 'static,
+    G: Ring<Link = P, Up = V> + Send + 'static,
+    E: PollEdge<Accept = A, Up = U, Ring = G>,
     W: Crew,
     C: Clock + Drop + Send + 'static,
     K: Sink,
     N: HubName + Send + Sync + 'static,
-    R: Wait + Threads + Clone + Drop + Send + Sync + 'static,
+    R: Wait + Threads + RandomSource + AllocGlobal + Clone + Drop + Send + Sync + 'static,
 >(
     rt: &R,
     alloc: Global,
@@ -161,9 +174,15 @@ fn serve_opened<
 {
     let hub: Arc<Hub<N, R>> = Arc::new(alloc, Hub::new(controller))?;
     let theirs = hub.clone()?;
-    let mut jobs: Jobs<A, U, C, N, R> = Jobs::new(alloc, sockets.conns, passes);
+    let mut jobs: Jobs<A, U, P, V, G, C, N, R> = Jobs::new(alloc, sockets.conns, passes);
     jobs.admin(edge, sockets.admin, theirs, clock)?;
-    jobs.doors(edge, sockets.doors.as_slice(), sockets.workers)?;
+    jobs.doors(
+        rt,
+        edge,
+        sockets.doors.as_slice(),
+        sockets.workers,
+        sockets.polled,
+    )?;
     let ended = run_all(rt, sink, crew, jobs.made);
     // Without the hub no reading is taken, so it stays until all jobs have ended.
     drop(hub);

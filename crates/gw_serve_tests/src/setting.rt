@@ -51,7 +51,7 @@ pub fn changes(alloc: Global) -> Result<Vec<u8>, NoMemory> {
     Ok(text.into_bytes())
 }
 
-/// One door with so many workers, and jobs that end after so many accepts.
+/// One door with so many workers, and jobs that end after so many accepts. Connections aren't polled.
 pub fn service(alloc: Global, workers: usize, conns: Option<u32>) -> Result<Service, Fail> {
     let mut doors = Vec::new(alloc);
     match Door::parse(alloc, "default/g:80=127.0.0.1:18080") {
@@ -67,6 +67,7 @@ pub fn service(alloc: Global, workers: usize, conns: Option<u32>) -> Result<Serv
         admin: ADMIN,
         workers,
         conns,
+        polled: false,
     })
 }
 

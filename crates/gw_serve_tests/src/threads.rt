@@ -9,6 +9,7 @@ use gw_hub::Controller;
 use gw_link::{MemClock, MemLink};
 use gw_match::Tables;
 use gw_net::ThreadCrew;
+use gw_polling::{MemPollLink, MemPollUpstream, MemRing};
 use gw_serve::{Job, ProxyJob, Service};
 use gw_snap::{Note, Pass, Passes, SnapFaults};
 use gw_text::{NoMemory, Second};
@@ -24,7 +25,16 @@ use std::thread::Threads;
 const REPLY: &[u8] = b"HTTP/1.1 200 OK\r\ncontent-length: 2\r\n\r\nok";
 
 // A job of the door's worker, with no need of a hub.
-type WorkerJob<R> = Job<MemAcceptor, GatedUpstream, MemClock, Brand, R>;
+type WorkerJob<R> = Job<
+    MemAcceptor,
+    GatedUpstream,
+    MemPollLink,
+    MemPollUpstream,
+    MemRing,
+    MemClock,
+    Brand,
+    R,
+>;
 
 // An edge with two acceptors for the door, to each of which one client comes with a request.
 fn edge(alloc: Global) -> Result<MemEdge, NoMemory> {

@@ -1,7 +1,7 @@
 -- Parts that stand one behind another, and the elements that stand in them.
-use Rattle.std.proofs.Common.{◌≡◌, ◌∙◌, sym, ap, ℕ, ◌+◌, ◌-◌, ◌<◌, ◌≤◌, arith, List, ◌++◌, length, get_or, take, drop, append_assoc}
+use Rattle.std.proofs.Common.{◌≡◌, ◌∙◌, sym, ap, ℕ, suc, ◌+◌, ◌-◌, ◌<◌, ◌≤◌, arith, List, [], ◌∷◌, ◌++◌, length, get_or, set, take, drop, append_assoc}
 use Rattle.std.proofs.lemmas.Grind.{flat_map-append}
-use Rattle.std.proofs.lemmas.List.{at_drop_more, drop-append-le, length-drop, take-append-drop, take-append-le}
+use Rattle.std.proofs.lemmas.List.{at_drop_more, drop-append-le, length-drop, set_split, take-append-drop, take-append-le}
 use Rattle.std.proofs.Math.Seq.{drop-append-add, take-append-add}
 use Rattle.std.specs.List.{flat_map}
 use Rattle.gw_shared.specs.model.Elements.{replaced}
@@ -68,3 +68,15 @@ module _ {A E : Type 0} (f : A → List E) (all : List A) (i : ℕ) (x : A) (pla
       whole
       ∙ append_assoc before (replaced place count value (f x)) behind
       ∙ changed_between before (f x) behind (flat_map f all) value place at count (parted f all i x within there) is few
+
+-- One that is set is put in place of one.
+pub one_put : {X : Type 0} (parts others : List X) (at : ℕ) (x : X) → length others ≡ 1 → x ≡ get_or others 0 x → at < length parts
+    → set parts at x ≡ replaced at 1 others parts
+one_put parts [] at x size is within = absurd (omega (arith, size))
+one_put {X} parts (y ∷ []) at x size is within =
+    let next : suc at ≡ at + 1 = omega arith in
+    set_split parts at x within
+    ∙ ap (λ (n : ℕ). take at parts ++ x ∷ drop n parts) next
+    ∙ ap (λ (z : X). take at parts ++ z ∷ drop (at + 1) parts) is
+    ∙ sym (append_assoc (take at parts) (y ∷ []) (drop (at + 1) parts))
+one_put parts (y ∷ z ∷ rest) at x size is within = absurd (omega (arith, size))

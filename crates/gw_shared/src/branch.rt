@@ -6,8 +6,9 @@ ghost use Rattle.gw_shared.specs.model.Elements as elements;
 use crate::cut::pieces_of;
 use crate::handle::Handle;
 use crate::leaf::Leaf;
-use crate::part::{Part, parts_replaced, piece_of};
+use crate::part::{Part, piece_of, replace_in};
 use crate::shared::Shared;
+use crate::spliced::all_handles;
 use gw_text::NoMemory;
 use std::alloc::Global;
 use std::marker::Model;
@@ -102,7 +103,8 @@ impl<T: Drop> Part<T> for Branch<T> {
         requires within { at + count ≤ length self.now }
         ensures { IfOk result (λ parts. elements_of parts.items ≡ elements.replaced at count (option_to_list value) self.now) }
     {
-        let leaves = parts_replaced(alloc, self.leaves.as_slice(), at, count, value)?;
+        let mut leaves = all_handles(alloc, self.leaves.as_slice())?;
+        replace_in(alloc, &mut leaves, at, count, value)?;
         branches_of(alloc, leaves)
     }
 }

@@ -1,9 +1,9 @@
 //! The list.
-ghost use Rattle.std.specs.Prelude.{◌≡◌, ◌+◌, ◌<◌, ◌≤◌, ◌++◌, ◌∷◌, [], IfOk, length, take, drop, slice_get, option_copied, option_to_list};
+ghost use Rattle.std.specs.Prelude.{◌≡◌, ◌+◌, ◌<◌, ◌≤◌, ◌++◌, ◌∷◌, [], IfOk, OnOk, OnErr, length, take, drop, slice_get, option_copied, option_to_list};
 ghost use Rattle.gw_shared.specs.model.Elements as elements;
 
 use crate::branch::Branch;
-use crate::part::{Part, parts_replaced, piece_of};
+use crate::part::{Part, piece_of, replace_in};
 use crate::shared::Shared;
 use crate::spliced::all_handles;
 use gw_text::NoMemory;
@@ -92,55 +92,55 @@ impl<T: Drop> SharedList<T> {
         })
     }
 
-    // A copy with this element, if there is one, in place of so many from a place on.
-    fn replaced(
-        &self,
+    // Puts this element, if there is one, in place of so many from a place on. Where memory is wanted, all is as it was.
+    fn replace(
+        &mut self,
         alloc: Global,
         at: usize,
         count: usize,
         value: Option<Shared<T>>,
-    ) -> Result<Self, NoMemory>
+    ) -> Result<(), NoMemory>
         requires few { count ≤ 1 }
-        requires within { at + count ≤ length self.now }
-        ensures { IfOk result (λ changed. changed ≡ elements.replaced at count (option_to_list value) self.now) }
+        requires within { at + count ≤ length self.old }
+        ensures replaced { OnOk result (self.new ≡ elements.replaced at count (option_to_list value) self.old) }
+        ensures kept { OnErr result (self.new ≡ self.old) }
     {
         let added = usize::from(value.is_some());
         let Some(number) = (self.count - count).checked_add(added) else {
             return Err(NoMemory);
         };
-        let branches = parts_replaced(alloc, self.branches.as_slice(), at, count, value)?;
-        Ok(SharedList {
-            branches,
-            count: number,
-        })
+        replace_in(alloc, &mut self.branches, at, count, value)?;
+        self.count = number;
+        Ok(())
     }
 
-    /// A copy with this element in place of the one of this place. It shares all leaves and branches but those of that place.
-    pub fn with_put(&self, alloc: Global, at: usize, value: Shared<T>) -> Result<Self, NoMemory>
-        requires { at < length self.now }
-        ensures { IfOk result (λ changed. changed ≡ take at self.now ++ value ∷ drop (at + 1) self.now) }
+    /// Puts this element in place of the one of this place. Copies keep the former one, and share all leaves and branches but those of that
+    /// place. Where memory is wanted, all is as it was.
+    pub fn put(&mut self, alloc: Global, at: usize, value: Shared<T>) -> Result<(), NoMemory>
+        requires { at < length self.old }
+        ensures put { OnOk result (self.new ≡ take at self.old ++ value ∷ drop (at + 1) self.old) }
+        ensures kept { OnErr result (self.new ≡ self.old) }
     {
-        self.replaced(alloc, at, 1, Some(value))
+        self.replace(alloc, at, 1, Some(value))
     }
 
-    /// A copy with this element before the one of this place, or at the end. It shares all leaves and branches but those of that place.
-    pub fn with_inserted(
-        &self,
-        alloc: Global,
-        at: usize,
-        value: Shared<T>,
-    ) -> Result<Self, NoMemory>
-        requires { at ≤ length self.now }
-        ensures { IfOk result (λ changed. changed ≡ take at self.now ++ value ∷ drop at self.now) }
+    /// Puts this element before the one of this place, or at the end. Copies stay without it, and share all leaves and branches but those of
+    /// that place. Where memory is wanted, all is as it was.
+    pub fn insert(&mut self, alloc: Global, at: usize, value: Shared<T>) -> Result<(), NoMemory>
+        requires { at ≤ length self.old }
+        ensures inserted { OnOk result (self.new ≡ take at self.old ++ value ∷ drop at self.old) }
+        ensures kept { OnErr result (self.new ≡ self.old) }
     {
-        self.replaced(alloc, at, 0, Some(value))
+        self.replace(alloc, at, 0, Some(value))
     }
 
-    /// A copy without the element of this place. It shares all leaves and branches but those of that place.
-    pub fn without(&self, alloc: Global, at: usize) -> Result<Self, NoMemory>
-        requires { at < length self.now }
-        ensures { IfOk result (λ changed. changed ≡ take at self.now ++ drop (at + 1) self.now) }
+    /// Takes out the element of this place. Copies keep it, and share all leaves and branches but those of that place. Where memory is wanted,
+    /// all is as it was.
+    pub fn remove(&mut self, alloc: Global, at: usize) -> Result<(), NoMemory>
+        requires { at < length self.old }
+        ensures removed { OnOk result (self.new ≡ take at self.old ++ drop (at + 1) self.old) }
+        ensures kept { OnErr result (self.new ≡ self.old) }
     {
-        self.replaced(alloc, at, 1, None)
+        self.replace(alloc, at, 1, None)
     }
 }

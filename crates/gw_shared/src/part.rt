@@ -1,5 +1,5 @@
 //! Elements in parts that stand one behind another.
-ghost use Rattle.std.specs.Prelude.{◌≡◌, ◌+◌, ◌<◌, ◌≤◌, IfOk, MatchResult, length, take, drop, get_or, option_to_list};
+ghost use Rattle.std.specs.Prelude.{◌≡◌, ◌+◌, ◌<◌, ◌≤◌, IfOk, OnOk, OnErr, MatchResult, length, take, drop, get_or, option_to_list};
 ghost use Rattle.std.specs.List.{flat_map};
 ghost use Rattle.gw_shared.specs.model.Elements as elements;
 
@@ -92,27 +92,49 @@ pub(crate) fn piece_of<T: Drop, X: Part<T> + Drop>(parts: &[X], at: usize) -> &[
     }
 }
 
-/// The parts with this element, if there is one, in place of so many from a place on. All parts but that one are shared.
-pub(crate) fn parts_replaced<T: Drop, X: Part<T> + Handle + Drop>(
+// Puts these parts in place of the one of this place. Where memory is wanted, all is as it was.
+fn put_parts<X: Handle + Drop>(
     alloc: Global,
-    parts: &[X],
+    parts: &mut Vec<X>,
+    at: usize,
+    mut others: Vec<X>,
+) -> Result<(), NoMemory>
+    requires { at < length parts.old.items }
+    ensures put { OnOk result (parts.new.items ≡ elements.replaced at 1 others.items parts.old.items) }
+    ensures kept { OnErr result (parts.new.items ≡ parts.old.items) }
+{
+    if others.len() == 1 {
+        parts[at] = others.remove(0);
+        return Ok(());
+    }
+    *parts = spliced(alloc, parts.as_slice(), at, 1, others)?;
+    Ok(())
+}
+
+/// Puts this element, if there is one, in place of so many from a place on. All parts but that one stay; where memory is wanted, all do.
+pub(crate) fn replace_in<T: Drop, X: Part<T> + Handle + Drop>(
+    alloc: Global,
+    parts: &mut Vec<X>,
     at: usize,
     count: usize,
     value: Option<Shared<T>>,
-) -> Result<Vec<X>, NoMemory>
+) -> Result<(), NoMemory>
     requires few { count ≤ 1 }
-    requires within { at + count ≤ length (flat_map X.elements parts.now) }
-    ensures { IfOk result (λ all. flat_map X.elements all.items ≡ elements.replaced at count (option_to_list value) (flat_map X.elements parts.now)) }
+    requires within { at + count ≤ length (flat_map X.elements parts.old.items) }
+    ensures replaced { OnOk result (flat_map X.elements parts.new.items ≡ elements.replaced at count (option_to_list value) (flat_map X.elements parts.old.items)) }
+    ensures kept { OnErr result (parts.new.items ≡ parts.old.items) }
 {
-    match place_in(parts, at, count) {
+    match place_in(parts.as_slice(), at, count) {
         Ok(place) => {
+            let index = place.index;
             let own = place.own.replaced(alloc, place.at, count, value)?;
-            let all = spliced(alloc, parts, place.index, 1, own)?;
-            Ok(all)
+            put_parts(alloc, parts, index, own)?;
+            Ok(())
         }
         Err(_) => {
-            let last = X::parts_of(alloc, one_or_none(alloc, value)?)?;
-            spliced(alloc, parts, parts.len(), 0, last)
+            let mut last = X::parts_of(alloc, one_or_none(alloc, value)?)?;
+            parts.append(&mut last)?;
+            Ok(())
         }
     }
 }

@@ -1,5 +1,5 @@
 //! Handles.
-ghost use Rattle.std.specs.Prelude.{◌≡◌, IfOk};
+ghost use Rattle.std.specs.Prelude.{◌≡◌, IfErr, IfOk};
 
 use crate::handle::Handle;
 use gw_text::NoMemory;
@@ -39,6 +39,17 @@ impl<T: Drop> Shared<T> {
         Ok(Shared {
             value: self.value.clone()?,
         })
+    }
+
+    /// The value, where this is the only handle on it, and else the handle.
+    pub fn into_own(self) -> Result<T, Self>
+        ensures own { IfOk result (λ value. value ≡ self) }
+        ensures other { IfErr result (λ other. other ≡ self) }
+    {
+        match Arc::try_unwrap(self.value) {
+            Ok(value) => Ok(value),
+            Err(value) => Err(Shared { value }),
+        }
     }
 }
 

@@ -23,7 +23,8 @@ fn put(alloc: Global, both: &Both, at: usize, value: u32) -> Result<Both, NoMemo
     let mut plain = Vec::from_slice(alloc, both.plain.as_slice())?;
     plain[at] = value;
     let handle = Shared::new(alloc, value)?;
-    let shared = both.shared.with_put(alloc, at, handle)?;
+    let mut shared = both.shared.share(alloc)?;
+    shared.put(alloc, at, handle)?;
     Ok(Both { shared, plain })
 }
 
@@ -34,7 +35,8 @@ fn insert(alloc: Global, both: &Both, at: usize, value: u32) -> Result<Both, NoM
     let mut plain = Vec::from_slice(alloc, both.plain.as_slice())?;
     plain.insert(at, value)?;
     let handle = Shared::new(alloc, value)?;
-    let shared = both.shared.with_inserted(alloc, at, handle)?;
+    let mut shared = both.shared.share(alloc)?;
+    shared.insert(alloc, at, handle)?;
     Ok(Both { shared, plain })
 }
 
@@ -44,7 +46,8 @@ fn remove(alloc: Global, both: &Both, at: usize) -> Result<Both, NoMemory>
 {
     let mut plain = Vec::from_slice(alloc, both.plain.as_slice())?;
     plain.remove(at);
-    let shared = both.shared.without(alloc, at)?;
+    let mut shared = both.shared.share(alloc)?;
+    shared.remove(alloc, at)?;
     Ok(Both { shared, plain })
 }
 
@@ -113,7 +116,8 @@ fn a_list_whose_branches_grow_has_what_a_plain_one_has(rt: HostRuntime) -> Resul
 fn a_copy_has_the_same_handles(rt: HostRuntime) -> Result<(), Fail> {
     let alloc = rt.alloc();
     let one = Shared::new(alloc, 1)?;
-    let list = SharedList::new(alloc).with_inserted(alloc, 0, one)?;
+    let mut list = SharedList::new(alloc);
+    list.insert(alloc, 0, one)?;
     let copy = list.share(alloc)?;
     assert!(rt; copy.len() == 1 && copy.handle(1).is_none());
     let Some(handle) = copy.handle(0) else {

@@ -7,19 +7,20 @@ use std::sync::Wait;
 use std::test::*;
 
 // Two requests of 28 bytes each. What is sent for each has 66 bytes, and the answer of the backend 52, which the reply has too.
-const TWO: &[u8; 56] = b"GET /a HTTP/1.1\r\nHost: x\r\n\r\nGET /a HTTP/1.1\r\nHost: x\r\n\r\n";
+pub(crate) const TWO: &[u8; 56] =
+    b"GET /a HTTP/1.1\r\nHost: x\r\n\r\nGET /a HTTP/1.1\r\nHost: x\r\n\r\n";
 
 // One request, whose backend must not be asked twice.
 const POST: &[u8; 49] = b"POST /a HTTP/1.1\r\nHost: x\r\nContent-Length: 1\r\n\r\nz";
 
 // No call has this number.
-const NONE: u64 = 1000;
+pub(crate) const NONE: u64 = 1000;
 
-const SERVED: &str =
+pub(crate) const SERVED: &str =
     r"200 200 Closed|HTTP/1.1 200 OK\r\ncontent-length: 13\r\n\r\n10.0.0.1:8080HTTP/1.1 200 OK\r\ncontent-length: 13\r\n\r\n10.0.0.1:8080";
 
 // The number of the read that fails where each gives at most 14 bytes, and what comes of it.
-const READS: &[(u64, &str)] = &[
+pub(crate) const READS: &[(u64, &str)] = &[
     (0, "Read|"),
     (1, "Read|"),
     (
@@ -38,7 +39,7 @@ const READS: &[(u64, &str)] = &[
 ];
 
 // The number of the write that fails where each takes at most 26 bytes, and what comes of it.
-const WRITES: &[(u64, &str)] = &[
+pub(crate) const WRITES: &[(u64, &str)] = &[
     (0, "200 Write|"),
     (1, r"200 Write|HTTP/1.1 200 OK\r\ncontent-l"),
     (
@@ -53,7 +54,7 @@ const WRITES: &[(u64, &str)] = &[
 ];
 
 // The number of the call of the backend that fails where each sends or gives at most 33 bytes, and what comes of it.
-const CALLS: &[(u64, &str)] = &[
+pub(crate) const CALLS: &[(u64, &str)] = &[
     (
         0,
         r"502Open 200 Closed|HTTP/1.1 502 Bad Gateway\r\nx-gateward-fault: Open\r\ncontent-length: 0\r\n\r\nHTTP/1.1 200 OK\r\ncontent-length: 13\r\n\r\n10.0.0.1:8080",

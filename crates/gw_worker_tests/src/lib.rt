@@ -3,9 +3,13 @@
 #![tactic(auto)]
 
 #[cfg(test)]
+mod crowd;
+#[cfg(test)]
 mod failing;
 #[cfg(test)]
 mod pieces;
+#[cfg(test)]
+mod polled;
 #[cfg(test)]
 mod schedule;
 #[cfg(test)]

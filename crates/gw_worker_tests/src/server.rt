@@ -104,21 +104,35 @@ impl<R: Wait + Drop> Server<R> {
         link: &mut MemLink,
         up: &mut MemUpstream,
     ) -> Result<String, NoMemory> {
-        let mut text = String::new(alloc);
         match serve_proxy(alloc, &mut self.worker, 0, link, up) {
             Ok(session) => {
-                put_rows(alloc, &mut text, session.rows.as_slice())?;
-                text.push_str(ended_text(session.ended))?;
+                let end = Ok(session.ended);
+                shown(alloc, session.rows.as_slice(), end, link.written())
             }
             Err(broken) => {
-                put_rows(alloc, &mut text, broken.rows.as_slice())?;
-                text.push_str(broken_text(broken.fault))?;
+                let end = Err(broken.fault);
+                shown(alloc, broken.rows.as_slice(), end, link.written())
             }
         }
-        text.push('|')?;
-        show(&mut text, link.written())?;
-        Ok(text)
     }
+}
+
+/// What came of a connection: a status and a fault for each row, how it ended, and what was written.
+pub(crate) fn shown(
+    alloc: Global,
+    rows: &[ServedRow],
+    end: Result<Ended, ConnFault>,
+    written: &[u8],
+) -> Result<String, NoMemory> {
+    let mut text = String::new(alloc);
+    put_rows(alloc, &mut text, rows)?;
+    text.push_str(match end {
+        Ok(why) => ended_text(why),
+        Err(fault) => broken_text(fault),
+    })?;
+    text.push('|')?;
+    show(&mut text, written)?;
+    Ok(text)
 }
 
 fn put_rows(alloc: Global, text: &mut String, rows: &[ServedRow]) -> Result<(), NoMemory> {

@@ -1,7 +1,8 @@
 // Every read and every write failing in turn, a sink that takes a byte at a time, and what is left of the input.
 use super::{Ran, run_word};
 use gw_link::{MemSink, MemSource};
-use std::alloc::{AllocError, Global};
+use std::alloc::{AllocError, AllocGlobal, Global};
+use std::random::RandomSource;
 use std::sync::Wait;
 use std::test::Fail;
 use std::thread::Threads;
@@ -27,11 +28,9 @@ fn sink_failing(alloc: Global, write: u64) -> Result<MemSink, AllocError> {
 }
 
 // A run whose read of this number fails.
-fn read_until<R: Wait + Threads + Clone + Drop + Send + Sync + 'static>(
-    rt: &R,
-    alloc: Global,
-    read: u64,
-) -> Result<Ran, AllocError> {
+fn read_until<
+    R: Wait + Threads + RandomSource + AllocGlobal + Clone + Drop + Send + Sync + 'static,
+>(rt: &R, alloc: Global, read: u64) -> Result<Ran, AllocError> {
     let source = source_failing(alloc, [read].to_vec(alloc)?)?;
     run_word(
         rt,
@@ -61,11 +60,9 @@ fn each_read_fails_in_turn(rt: HostRuntime) -> Result<(), Fail> {
 }
 
 // A run whose write of this number fails.
-fn written_until<R: Wait + Threads + Clone + Drop + Send + Sync + 'static>(
-    rt: &R,
-    alloc: Global,
-    write: u64,
-) -> Result<Ran, AllocError> {
+fn written_until<
+    R: Wait + Threads + RandomSource + AllocGlobal + Clone + Drop + Send + Sync + 'static,
+>(rt: &R, alloc: Global, write: u64) -> Result<Ran, AllocError> {
     let source = source_failing(alloc, Vec::new(alloc))?;
     run_word(rt, alloc, "status", source, sink_failing(alloc, write)?)
 }

@@ -2,13 +2,15 @@
 use super::run_over;
 use gw_edge::{MemAcceptor, MemCrew, MemEdge};
 use gw_link::{MemLink, MemSink, MemSource};
+use gw_polling::MemPollEdge;
 use gw_text::Socket;
-use std::alloc::{AllocError, Global};
+use std::alloc::{AllocError, AllocGlobal, Global};
+use std::random::RandomSource;
 use std::sync::Wait;
 use std::test::Fail;
 use std::thread::Threads;
 
-const ADMIN: Socket = Socket {
+pub(super) const ADMIN: Socket = Socket {
     a: 127,
     b: 0,
     c: 0,
@@ -16,13 +18,13 @@ const ADMIN: Socket = Socket {
     port: 18000,
 };
 
-const DOOR: Socket = Socket {
+pub(super) const DOOR: Socket = Socket {
     port: 18080,
     ..ADMIN
 };
 
 // A class, a Gateway, a Route, its Service, and a slice with its backend.
-const CHANGES: &str = concat!(
+pub(super) const CHANGES: &str = concat!(
     "POST /changes HTTP/1.1\r\nHost: x\r\nContent-Length: 940\r\n\r\n",
     r#"{"type":"ADDED","object":{"apiVersion":"gateway.networking.k8s.io/v1","kind":"GatewayClass","metadata":{"name":"c"},"spec":{"controllerName":"gateward.example/controller"}}}"#,
     "\n",
@@ -41,9 +43,9 @@ const TAKEN: &str = concat!(
     "{\"accepted\":5,\"first\":0,\"front\":5,\"refused\":0,\"skipped\":0}\n",
 );
 
-const REQUEST: &str = "GET /a HTTP/1.1\r\nHost: x\r\n\r\n";
+pub(super) const REQUEST: &str = "GET /a HTTP/1.1\r\nHost: x\r\n\r\n";
 
-const REPLY: &str = "HTTP/1.1 200 OK\r\ncontent-length: 13\r\n\r\n10.0.0.1:8080";
+pub(super) const REPLY: &str = "HTTP/1.1 200 OK\r\ncontent-length: 13\r\n\r\n10.0.0.1:8080";
 
 const NO_ROUTE: &str = "HTTP/1.1 404 Not Found\r\ncontent-length: 0\r\n\r\n";
 
@@ -156,7 +158,7 @@ fn link(alloc: Global, text: &str, reads: &[u64]) -> Result<MemLink, AllocError>
 }
 
 // An acceptor of a link that gives this text, behind so many that break. Its calls with these numbers fail.
-fn acceptor(
+pub(super) fn acceptor(
     alloc: Global,
     text: &str,
     broken: usize,
@@ -170,11 +172,11 @@ fn acceptor(
     Ok(MemAcceptor::new(alloc, links, fails.to_vec(alloc)?))
 }
 
-fn edge_of(alloc: Global, row: &Row) -> Result<MemEdge, AllocError> {
+fn edge_of(alloc: Global, row: &Row) -> Result<MemPollEdge, AllocError> {
     let mut edge = MemEdge::new(alloc, row.edge.to_vec(alloc)?);
     edge.add_acceptor(ADMIN, acceptor(alloc, CHANGES, row.broken, row.accepts)?)?;
     edge.add_acceptor(DOOR, acceptor(alloc, REQUEST, row.broken, &[])?)?;
-    Ok(edge)
+    Ok(MemPollEdge::new(alloc, edge, Vec::new(alloc)))
 }
 
 // Whether the last client is written this, or none is accepted.
@@ -187,7 +189,7 @@ fn is_written(links: Option<&[MemLink]>, text: Option<&str>) -> bool {
 }
 
 // Whether a run comes out as the row says.
-fn is_so<R: Wait + Threads + Clone + Drop + Send + Sync + 'static>(
+fn is_so<R: Wait + Threads + RandomSource + AllocGlobal + Clone + Drop + Send + Sync + 'static>(
     rt: &R,
     alloc: Global,
     row: &Row,
@@ -213,8 +215,8 @@ fn is_so<R: Wait + Threads + Clone + Drop + Send + Sync + 'static>(
     Ok(
         ran.exit_code == row.code
             && ran.sink.written() == row.text.as_bytes()
-            && is_written(edge.closed(0), row.admin)
-            && is_written(edge.closed(1), row.door),
+            && is_written(edge.edge().closed(0), row.admin)
+            && is_written(edge.edge().closed(1), row.door),
     )
 }
 

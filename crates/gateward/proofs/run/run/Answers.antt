@@ -46,25 +46,25 @@ returns-in-Ok-output_of-clause-exits g c =
 pub returns-in-Some-clause-text : goal.returns-in-Some-clause-text
 returns-in-Some-clause-text g c = λ few.
     let end = c.run_service.ensures.served few in
-    inl (end.0, served _ _ _ _ _ _ c.setting.view_is c.in-Ok.ensures.start c.in-Some.ensures.some _ _ _ _ _ end.1.0 end.1.1.0 end.1.1.1)
+    inl (end.0, served _ _ _ _ _ _ _ c.setting.view_is c.in-Ok.ensures.start c.in-Some.ensures.some _ _ _ _ _ end.1.0 end.1.1.0 end.1.1.1)
 
 pub returns-in-Some-clause-begin : goal.returns-in-Some-clause-begin
 returns-in-Some-clause-begin g c = λ five.
     let end = c.run_service.ensures.fault (λ few. omega (arith, five, few)) in
-    inl (end.0, (end.1.0, (end.1.1.0, failed _ _ _ _ _ _ c.setting.view_is c.in-Ok.ensures.start c.in-Some.ensures.some _ _ _ _ end.0 _ _ end.1.1.1.0 end.1.1.1.1.0 end.1.1.1.1.1)))
+    inl (end.0, (end.1.0, (end.1.1.0, failed _ _ _ _ _ _ _ c.setting.view_is c.in-Ok.ensures.start c.in-Some.ensures.some _ _ _ _ end.0 _ _ end.1.1.1.0 end.1.1.1.1.0 end.1.1.1.1.1)))
 
 pub returns-in-Some-clause-front : goal.returns-in-Some-clause-front
 returns-in-Some-clause-front g c = λ four.
     let end = c.run_service.ensures.fault (λ few. omega (arith, four, few)) in
     inl (
-      set_to_serve _ _ _ _ _ c.in-Ok.ensures.start c.in-Some.ensures.some,
+      set_to_serve _ _ _ _ _ _ c.in-Ok.ensures.start c.in-Some.ensures.some,
       write_failed end.0 _ _ _ end.1.1.1.0 _ _ _ _ _ four end.1.0 end.1.1.1.1.0 end.1.1.1.1.1,
     )
 
 pub returns-in-Some-clause-served : goal.returns-in-Some-clause-served
 returns-in-Some-clause-served g c = λ few set.
     let end = c.run_service.ensures.served few in
-    (end.0, served _ _ _ _ _ _ c.setting.view_is c.in-Ok.ensures.start c.in-Some.ensures.some _ _ _ _ _ end.1.0 end.1.1.0 end.1.1.1)
+    (end.0, served _ _ _ _ _ _ _ c.setting.view_is c.in-Ok.ensures.start c.in-Some.ensures.some _ _ _ _ _ end.1.0 end.1.1.0 end.1.1.1)
 
 pub returns-in-Ok-output_of-clause-served : goal.returns-in-Ok-output_of-clause-served
 returns-in-Ok-output_of-clause-served g c = λ few set. absurd (no_output _ _ set _ _ _ _ c.in-Ok.ensures.start c.in-Ok-output_of.ensures.output)
@@ -73,7 +73,7 @@ pub returns-in-Ok-output_of-clause-generated : goal.returns-in-Ok-output_of-clau
 returns-in-Ok-output_of-clause-generated g c = λ set. absurd (no_generation _ _ c.in-Ok.ensures.start (c.generation.ensures.none c.in_default-generation.is) set)
 
 pub returns-in-Some-clause-generated : goal.returns-in-Some-clause-generated
-returns-in-Some-clause-generated g c = λ set. absurd (serves_instead _ _ c.in-Ok.ensures.start _ _ _ c.in-Some.ensures.some set)
+returns-in-Some-clause-generated g c = λ set. absurd (serves_instead _ _ c.in-Ok.ensures.start _ _ _ _ c.in-Some.ensures.some set)
 
 pub returns-in-Some-generation-clause-text : goal.returns-in-Some-generation-clause-text
 returns-in-Some-generation-clause-text g c = λ few. inr (inl (set_to_generate _ _ c.in-Ok.ensures.start _ c.in-Some-generation.ensures.some))

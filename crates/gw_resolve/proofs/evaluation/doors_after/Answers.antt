@@ -9,14 +9,14 @@ use Rattle.gw_resolve.proofs.evaluation.doors_after.Goals as goal
 pub gateways-preserved : goal.gateways-preserved
 gateways-preserved c =
     let doors = c.args.doors.now in
-    let former = c.args.former.now in
+    let former = c.args.former in
     let controller = former.controller in
     let w = c.args.world.now.world in
     let keys = c.args.touched.now.gateways in
     let i = c.gateways.gateway-index in
     let e = c.deref.result.now in
     let before = c.gateways.kept in
-    let after = c.in_ok-kept-2.kept in
+    let after = c.in_ok-kept.kept in
     let items : c.as_slice-gateway-items.result.now ≡ keys = c.as_slice-gateway-items.ensures.value ∙ ap (λ (t : Touched). t.gateways) c.touched.view_is in
     let bound : i < length c.as_slice-gateway-items.result.now = search rules in
     let at : c.gateway-item.result ≡ get_or c.as_slice-gateway-items.result.now i c.gateway-item.result = search rules in
@@ -24,7 +24,7 @@ gateways-preserved c =
     let here : e ≡ get_or keys i e = subst (λ (k : Key). k ≡ get_or keys i k) (sym c.deref.ensures) (at ∙ ap (λ ks. get_or ks i c.gateway-item.result) items) in
     let name : before.controller ≡ controller = ap (λ (h : Held). h.controller) c.gateways.invariant.same in
     let anew : after ≡ record before { doors = map (served_anew doors controller w e) before.doors } =
-    c.in_ok-kept-2.ensures ∙ ap (λ (n : List _). record before { doors = map (served_anew doors n w e) before.doors }) name in
+    c.in_ok-kept.ensures ∙ ap (λ (n : List _). record before { doors = map (served_anew doors n w e) before.doors }) name in
     record {
       doors = doors_more doors controller w keys i e before.doors after.doors _ within here c.gateways.invariant.doors (ap (λ (h : Held). h.doors) anew);
       same = anew
@@ -35,7 +35,7 @@ gateways-preserved c =
 pub returns : goal.returns
 returns c =
     let doors = c.args.doors.now in
-    let former = c.args.former.now in
+    let former = c.args.former in
     let controller = former.controller in
     let w = c.args.world.now.world in
     let keys = c.args.touched.now.gateways in

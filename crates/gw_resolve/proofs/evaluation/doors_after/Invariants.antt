@@ -5,7 +5,7 @@ use Rattle.gw_resolve.proofs.evaluation.doors_after.Given as goal
 
 abbrev pub invariant-gateways : goal.invariant-gateways
 invariant-gateways l = record {
-  doors : map (anew_by l.doors l.former.controller l.world.world (drop l.gateway-index l.touched.gateways)) l.kept.doors
-      ≡ map (anew_by l.doors l.former.controller l.world.world l.touched.gateways) l.former.doors;
-  same : l.kept ≡ record l.former { doors = l.kept.doors };
+  doors : map (anew_by l.doors l.fn.former.controller l.world.world (drop l.gateway-index l.touched.gateways)) l.kept.doors
+      ≡ map (anew_by l.doors l.fn.former.controller l.world.world l.touched.gateways) l.fn.former.doors;
+  same : l.kept ≡ record l.fn.former { doors = l.kept.doors };
 }

@@ -1,7 +1,8 @@
 -- The status of a Gateway more is evaluated; in the end the statuses tell the same of each key as those of all.
-use Rattle.std.proofs.Common.{◌≡◌, ◌∙◌, ◌<◌, ◌≤◌, IfSome, ap, arith, get_or, length, rules, subst, sym}
+use Rattle.std.proofs.Common.{◌≡◌, ◌∙◌, ◌<◌, ◌≤◌, IfSome, List, ap, arith, get_or, length, rules, subst, sym}
 use Rattle.std.specs.Prelude.{if◌then◌else◌}
 use Rattle.gw_text.specs.model.Names.{Key, same_key}
+use Rattle.gw_text.specs.model.Statuses.{GatewayStatus}
 use Rattle.gw_deps.specs.Touching.{Touched}
 use Rattle.gw_eval.specs.Results.{gateway_status_at}
 use Rattle.gw_kept.specs.Held.{gateway_status_key}
@@ -29,10 +30,13 @@ keys-preserved g c =
     let within : i < length keys = rw items at bound in
     let here : e ≡ get_or keys i e = subst (λ (k : Key). k ≡ get_or keys i k) (sym c.deref-in-keys.ensures) (at ∙ ap (λ ks. get_or ks i c.key-item.result) items) in
     let fresh : c.in_ok-share_status.field-0 ≡ f e = c.in_ok-share_status.ensures ∙ c.in_ok-status.ensures.status ∙ ap f (c.deref.ensures ∙ sym c.deref-in-keys.ensures) in
+    let found : (k : Key) → kept_at gateway_status_key k c.in_ok-all-2.all ≡ (if same_key e k then c.in_ok-share_status.field-0 else kept_at gateway_status_key k before) =
+    subst (λ (all : List GatewayStatus). (k : Key) → kept_at gateway_status_key k c.in_ok-all-2.all ≡ (if same_key e k then c.in_ok-share_status.field-0 else kept_at gateway_status_key k all)) c.all.view_is
+    c.in_ok-all-2.ensures.found in
     record {
       order = c.in_ok-all-2.ensures.order;
       told = told_more f (λ k. kept_at gateway_status_key k before) (λ k. kept_at gateway_status_key k c.in_ok-all-2.all) keys i e within here c.keys.invariant.told
-          (λ k. c.in_ok-all-2.ensures.found k ∙ ap (λ o. if same_key e k then o else kept_at gateway_status_key k before) fresh);
+          (λ k. found k ∙ ap (λ o. if same_key e k then o else kept_at gateway_status_key k before) fresh);
       steps = omega (arith, c.in_ok-status.ensures.steps, c.keys.invariant.steps);
     }
 

@@ -1,5 +1,5 @@
 -- The Routes are the same.
-use Rattle.std.proofs.Common.{rules}
+use Rattle.std.proofs.Common.{refl}
 use Rattle.std.specs.Arc.{arc_value}
 use Rattle.gw_kept.proofs.Holding.{has_rows, have_plans, held_again}
 use Rattle.gw_kept.proofs.held.KeptRoutes.with_gateway.Goals as goal
@@ -12,6 +12,6 @@ doors_anew-requires-clause-rows c door l = has_rows (arc_value c.self.inside.con
 
 pub invariant_of-result : goal.invariant_of-result
 invariant_of-result c =
-    held_again (arc_value c.self.inside.controller) (arc_value c.in_ok-clone.field-0) c.self.inside.kept c.in_ok-share.field-0 c.self.inside.statuses c.in_ok-share-2.field-0
-    c.self.inside.counts c.in_ok-share-3.field-0 c.self.inside.doors.items c.in_ok-doors_anew.field-0.items
-    c.self.invariant (search rules) c.in_ok-share.ensures c.in_ok-share-2.ensures c.in_ok-share-3.ensures c.in_ok-doors_anew.ensures.tables
+    held_again (arc_value c.self.inside.controller) (arc_value c.self.inside.controller) c.self.inside.kept c.self.inside.kept c.self.inside.statuses c.self.inside.statuses
+    c.self.inside.counts c.self.inside.counts c.self.inside.doors.items c.in_ok-held.held.items
+    c.self.invariant refl refl refl refl c.in_ok-held.ensures.tables

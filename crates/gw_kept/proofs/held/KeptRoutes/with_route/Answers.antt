@@ -9,5 +9,5 @@ with-requires-clause-own g c = route_under c.deref.result.now c.args.world.now.w
 
 pub with-requires-clause-evaluated : goal.with-requires-clause-evaluated
 with-requires-clause-evaluated g c =
-    let name : c.deref.result.now ≡ c.args.self.now.controller = search rules in
+    let name : c.deref.result.now ≡ c.args.self.controller = search rules in
     subst (λ n. IfSome c.in_ok-kept.kept (IsEvaluated n)) name (evaluated_in c.deref.result.now c.args.world.now.world c.args.key.now c.in_ok-kept.kept c.in_ok-kept.ensures.route)

@@ -1,0 +1,117 @@
+// Connections that are polled, over a ring in memory.
+use super::run_over;
+use super::serving::{ADMIN, CHANGES, DOOR, REPLY, REQUEST, acceptor};
+use gw_edge::{MemCrew, MemEdge};
+use gw_link::{MemSink, MemSource, MemUpstream};
+use gw_polling::{MemConn, MemPollEdge, MemPollLink, MemPollUpstream, MemRing};
+use std::alloc::{AllocError, AllocGlobal, Global};
+use std::random::RandomSource;
+use std::sync::Wait;
+use std::test::Fail;
+use std::thread::Threads;
+
+// A service of one door to which two clients come. The second half of the first one's request comes late.
+struct Row {
+    // The numbers of the calls for rings that fail.
+    rings: &'static [u64],
+    code: u8,
+    text: &'static str,
+    // What the clients are written, in the order in which their connections are closed.
+    written: &'static [&'static str],
+}
+
+const ROWS: &[Row] = &[
+    Row {
+        rings: &[],
+        code: 0,
+        text: "{\"ready\":true}\n",
+        written: &[REPLY, REPLY],
+    },
+    Row {
+        rings: &[0],
+        code: 5,
+        text: "{\"fault\":\"bind\"}\n",
+        written: &[],
+    },
+];
+
+// A client that gives its request in halves, before the second of which it isn't ready so many times.
+fn client(alloc: Global, late: usize) -> Result<MemConn, AllocError> {
+    let mut sink = MemSink::new(alloc, Vec::new(alloc));
+    sink.reserve(1000)?;
+    let mut link = MemPollLink::new(alloc, Vec::new(alloc), sink);
+    for half in REQUEST.as_bytes().chunks(14) {
+        link.push(half)?;
+    }
+    link.push(&[])?;
+    let mut marks = Vec::new(alloc);
+    for _ in 0..late {
+        marks.push(1)?;
+    }
+    let up = MemUpstream::new(alloc, Vec::new(alloc));
+    Ok(MemConn {
+        link: link.with_marks(marks, Vec::new(alloc)),
+        up: MemPollUpstream::new(up, Vec::new(alloc)),
+    })
+}
+
+fn edge_of(alloc: Global, row: &Row) -> Result<MemPollEdge, AllocError> {
+    let mut edge = MemEdge::new(alloc, Vec::new(alloc));
+    edge.add_acceptor(ADMIN, acceptor(alloc, CHANGES, 0, &[])?)?;
+    let mut edge = MemPollEdge::new(alloc, edge, row.rings.to_vec(alloc)?);
+    let mut coming = Vec::new(alloc);
+    coming.push(client(alloc, 3)?)?;
+    coming.push(client(alloc, 0)?)?;
+    edge.add_ring(DOOR, MemRing::new(alloc, coming, Vec::new(alloc)))?;
+    Ok(edge)
+}
+
+// Whether the closed connections were written these.
+fn are_written(conns: Option<&[MemConn]>, texts: &[&str]) -> bool {
+    let conns = conns.unwrap_or(&[]);
+    conns.len() == texts.len()
+        && conns
+            .iter()
+            .zip(texts.iter())
+            .all(|(conn, text)| conn.link.written() == text.as_bytes())
+}
+
+// Whether a run comes out as the row says.
+fn is_so<R: Wait + Threads + RandomSource + AllocGlobal + Clone + Drop + Send + Sync + 'static>(
+    rt: &R,
+    alloc: Global,
+    row: &Row,
+) -> Result<bool, AllocError> {
+    let mut edge = edge_of(alloc, row)?;
+    let mut crew = MemCrew::new(Vec::new(alloc));
+    let ran = run_over(
+        rt,
+        alloc,
+        &[
+            "serve",
+            "--admin",
+            "127.0.0.1:18000",
+            "--polled",
+            "--conns",
+            "2",
+            "default/g:80=127.0.0.1:18080",
+        ],
+        MemSource::new(Vec::new(alloc), Vec::new(alloc)),
+        MemSink::new(alloc, Vec::new(alloc)),
+        &mut edge,
+        &mut crew,
+    )?;
+    Ok(
+        ran.exit_code == row.code
+            && ran.sink.written() == row.text.as_bytes()
+            && are_written(edge.closed(0), row.written),
+    )
+}
+
+#[test]
+fn polled_connections_are_served(rt: HostRuntime) -> Result<(), Fail> {
+    for (number, row) in ROWS.iter().enumerate() {
+        assert!(rt; is_so(&rt, rt.alloc(), row)?, "row {number}");
+    }
+    Ok(())
+}

@@ -1,0 +1,10 @@
+pub mod Counting
+pub mod Unanswered
+pub mod Going
+pub mod Stepping
+pub mod Keeping
+pub mod Waiting
+pub mod Lone
+pub mod Orders
+pub mod Crowding
+pub mod Beginning

@@ -1,0 +1,5 @@
+pub mod Histories
+pub mod Courses
+pub mod Causes
+pub mod Alones
+pub mod Crowds
