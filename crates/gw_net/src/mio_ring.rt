@@ -53,6 +53,8 @@ pub struct MioRing<R: Net + Clock + Clone + Drop> {
     open_numbers: Vec<u64>,
     next: u64,
     may_accept: bool,
+    // A connection was taken since the system was asked.
+    has_taken: bool,
     is_paused: bool,
     endings: Endings,
     faults: FaultCount,
@@ -97,6 +99,7 @@ impl<R: Net + Clock + Clone + Drop> MioRing<R> {
             open_numbers: Vec::new(alloc),
             next: 0,
             may_accept: true,
+            has_taken: false,
             is_paused: false,
             endings: Endings::new(alloc)?,
             faults: FaultCount::new(),
@@ -164,6 +167,7 @@ impl<R: Net + Clock + Clone + Drop> MioRing<R> {
         self.open_numbers.push(self.next)?;
         let number = self.next;
         self.next += 1;
+        self.has_taken = true;
         Ok(Woken::New(number, link, up))
     }
 }
@@ -214,6 +218,9 @@ impl<R: Net + Clock + Clone + Drop> MioRing<R> {
 
     // How long the system may be waited for.
     fn most_wait(&self) -> Option<Duration> {
+        if self.has_taken {
+            return Some(Duration::from_millis(0));
+        }
         if self.is_paused || !self.endings.is_empty() {
             return Some(Duration::from_millis(PAUSE));
         }
@@ -232,8 +239,21 @@ impl<R: Net + Clock + Clone + Drop> MioRing<R> {
         }
         let waits = note(&self.events, &mut self.named, &mut self.endings)?;
         self.may_accept = self.may_accept || waits || self.is_paused;
+        self.has_taken = false;
         self.is_paused = false;
         self.endings.close_old(&self.rt);
+        Ok(())
+    }
+
+    // Asks the system without a wait behind each connection that was taken, so that those who come hold up nobody who is open.
+    fn look_between(&mut self) -> Result<(), RingFault>
+        ensures ok { OnOk result (self.new ≡ self.old) }
+        ensures failed { result ≡ Err RingFault.Failed → self.new ≡ record self.old { faults = one_more self.old.faults } }
+        ensures starved { result ≡ Err RingFault.NoMemory → self.new ≡ self.old }
+    {
+        if self.has_taken {
+            return self.look();
+        }
         Ok(())
     }
 }
@@ -267,6 +287,7 @@ impl<R: Net + Clock + Clone + Drop> Ring for MioRing<R> {
         ensures task { KeepsTask _cx.old _cx.new }
     {
         'tries: for _ in 0..MOST_TRIES {
+            self.look_between()?;
             if !self.named.is_empty() {
                 return Ok(Woken::Ready(self.name(alloc)?));
             }

@@ -316,3 +316,37 @@ fn rings_share_a_socket(rt: HostRuntime) -> Result<(), Fail> {
     }
     Ok(())
 }
+
+// Whether one of the next three waits names this connection, whoever comes meanwhile.
+fn is_named_soon<W: Wait + AllocGlobal>(
+    rt: &W,
+    task: &MockTask,
+    ring: &mut Own,
+    number: u64,
+) -> bool {
+    for _ in 0..3 {
+        if let Ok(Woken::Ready(numbers)) = wait(rt, task, ring) {
+            if numbers.as_slice().contains(&number) {
+                return true;
+            }
+        }
+    }
+    false
+}
+
+#[test]
+fn who_is_open_is_named_while_others_come(rt: HostRuntime) -> Result<(), Fail> {
+    let task = MockTask::new(&rt)?;
+    let (mut ring, at) = ring(&rt)?;
+    let mut first = ask(&rt, at, b"")?;
+    let mut one = next_of(&rt, &task, &mut ring)?;
+    assert!(rt; one.number == 0 && names(&rt, &task, &mut ring, 0));
+    assert!(rt; poll(&task, &mut one, Call::Read).is_pending());
+    let mut others = Vec::new(rt.alloc());
+    for _ in 0..20 {
+        others.push(ask(&rt, at, b"")?)?;
+    }
+    first.write_all(b"x")?;
+    assert!(rt; is_named_soon(&rt, &task, &mut ring, 0));
+    Ok(())
+}

@@ -39,8 +39,8 @@ const NONE: Fails<'static> = Fails {
     accepts: &[],
 };
 
-// A client that gives its request in halves, before the second of which it isn't ready so many times.
-fn client(alloc: Global, late: usize) -> Result<MemConn, NoMemory> {
+// A client that gives its request in halves. One who is late isn't ready before the second.
+fn client(alloc: Global, is_late: bool) -> Result<MemConn, NoMemory> {
     let mut sink = MemSink::new(alloc, Vec::new(alloc));
     sink.reserve(1000)?;
     let mut link = MemPollLink::new(alloc, Vec::new(alloc), sink);
@@ -48,13 +48,10 @@ fn client(alloc: Global, late: usize) -> Result<MemConn, NoMemory> {
         link.push(half)?;
     }
     link.push(&[])?;
-    let mut marks = Vec::new(alloc);
-    for _ in 0..late {
-        marks.push(1)?;
-    }
+    let marks: &[u64] = if is_late { &[1] } else { &[] };
     let up = MemUpstream::new(alloc, Vec::new(alloc));
     Ok(MemConn {
-        link: link.with_marks(marks, Vec::new(alloc)),
+        link: link.with_marks(marks.to_vec(alloc)?, Vec::new(alloc)),
         up: MemPollUpstream::new(up, Vec::new(alloc)),
     })
 }
@@ -62,8 +59,8 @@ fn client(alloc: Global, late: usize) -> Result<MemConn, NoMemory> {
 // A ring to which two clients come, the first of whom is late. Its waits with these numbers fail.
 fn ring(alloc: Global, fails: &[u64]) -> Result<MemRing, NoMemory> {
     let mut coming = Vec::new(alloc);
-    coming.push(client(alloc, 3)?)?;
-    coming.push(client(alloc, 0)?)?;
+    coming.push(client(alloc, true)?)?;
+    coming.push(client(alloc, false)?)?;
     Ok(MemRing::new(alloc, coming, fails.to_vec(alloc)?))
 }
 

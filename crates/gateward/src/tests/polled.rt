@@ -35,8 +35,8 @@ const ROWS: &[Row] = &[
     },
 ];
 
-// A client that gives its request in halves, before the second of which it isn't ready so many times.
-fn client(alloc: Global, late: usize) -> Result<MemConn, AllocError> {
+// A client that gives its request in halves. One who is late isn't ready before the second.
+fn client(alloc: Global, is_late: bool) -> Result<MemConn, AllocError> {
     let mut sink = MemSink::new(alloc, Vec::new(alloc));
     sink.reserve(1000)?;
     let mut link = MemPollLink::new(alloc, Vec::new(alloc), sink);
@@ -44,13 +44,10 @@ fn client(alloc: Global, late: usize) -> Result<MemConn, AllocError> {
         link.push(half)?;
     }
     link.push(&[])?;
-    let mut marks = Vec::new(alloc);
-    for _ in 0..late {
-        marks.push(1)?;
-    }
+    let marks: &[u64] = if is_late { &[1] } else { &[] };
     let up = MemUpstream::new(alloc, Vec::new(alloc));
     Ok(MemConn {
-        link: link.with_marks(marks, Vec::new(alloc)),
+        link: link.with_marks(marks.to_vec(alloc)?, Vec::new(alloc)),
         up: MemPollUpstream::new(up, Vec::new(alloc)),
     })
 }
@@ -60,8 +57,8 @@ fn edge_of(alloc: Global, row: &Row) -> Result<MemPollEdge, AllocError> {
     edge.add_acceptor(ADMIN, acceptor(alloc, CHANGES, 0, &[])?)?;
     let mut edge = MemPollEdge::new(alloc, edge, row.rings.to_vec(alloc)?);
     let mut coming = Vec::new(alloc);
-    coming.push(client(alloc, 3)?)?;
-    coming.push(client(alloc, 0)?)?;
+    coming.push(client(alloc, true)?)?;
+    coming.push(client(alloc, false)?)?;
     edge.add_ring(DOOR, MemRing::new(alloc, coming, Vec::new(alloc)))?;
     Ok(edge)
 }
