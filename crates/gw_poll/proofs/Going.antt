@@ -1,10 +1,12 @@
 -- How stretches of a history follow one another.
 use Rattle.std.proofs.Common.{◌≡◌, ℕ, ◌⊎◌, inl, inr, Bool, true, List, [], ◌∷◌, ◌++◌, map, Option, Some, None, IfSome, ap, refl, sym, ◌∙◌, append_assoc, append-nil, arith}
+use Rattle.std.proofs.lemmas.List.{append_cancel_left}
 use Rattle.gw_link.proofs.PieceLemmas.{Gives-more, Gives-nothing, Takes-more, Takes-nothing}
 use Rattle.gw_link.specs.Exchanges.{Exchange}
 use Rattle.gw_link.specs.Pieces.{Gives, IsAtEnd, Keeps, Takes}
 use Rattle.gw_link.specs.declared.order.UpstreamCall.{UpstreamCall}
 use Rattle.gw_lists.proofs.Beginnings.{begins_with-self, begins_with-trans}
+use Rattle.gw_poll_exchange.specs.Polled.{TellsOn}
 use Rattle.gw_text.specs.model.Addresses.{Socket}
 use Rattle.gw_worker.proofs.Parts.{decided_append}
 use Rattle.gw_worker.specs.Flows.{Outside, outside}
@@ -36,6 +38,8 @@ went_self refuses p w h left o = record {
   decided = refl;
   refused = tt;
   met_are = begins_with-self h.met;
+  rest = h.begun;
+  rest_is = refl;
   told = λ earlier is. is;
   failed = inl (omega arith);
 }
@@ -67,6 +71,8 @@ went_kept refuses p w h left left' told told' x n unread unwritten = record {
   decided = refl;
   refused = tt;
   met_are = begins_with-self h.met;
+  rest = h.begun;
+  rest_is = refl;
   told = λ earlier is. is;
   failed = inl (omega arith);
 }
@@ -99,6 +105,11 @@ ends_then left middle after first second a b c gave gives one two over = by (two
     by (inr is) = inr (whole left middle gave is)
     by (inl was) = elim (one was) [ inl first' ↦ inl first' | inr is ↦ inr (end_stays left middle after first second gave gives is) ]
 
+-- What was told of one stretch and of another one is told of both: what the first put to what was met, and what the second left.
+told_then : (before met begun rest more : List Exchange) (x y z : Option (List Exchange)) → met ++ begun ≡ rest → TellsOn before rest x y → TellsOn begun more y z → TellsOn before (met ++ more) x z
+told_then before met begun rest more x y z is first second = λ earlier told.
+    second (earlier ++ met) (first earlier told ∙ ap Some (ap (λ (l : List Exchange). earlier ++ l) (sym is) ∙ sym (append_assoc earlier met begun))) ∙ ap Some (append_assoc earlier met more)
+
 -- One stretch and then another one.
 pub went_then : (first second wider : UpstreamCall → Socket → Type 0) (p : Place) (a b c : Worker) (h h1 h2 : History) (l l1 l2 : Option (List ℕ)) (o o1 o2 : Outside)
     → ((call : UpstreamCall) (to : Socket) → first call to → wider call to) → ((call : UpstreamCall) (to : Socket) → second call to → wider call to)
@@ -125,7 +136,11 @@ went_then first second wider p a b c h h1 h2 l l1 l2 o o1 o2 still later t u = r
   decided = decided_append p a b c t.fresh u.fresh t.decided u.decided;
   refused = refused_then first second wider p t.came u.came still later t.refused u.refused;
   met_are = begins_with-trans h.met h1.met h2.met t.met_are u.met_are;
-  told = λ earlier is. u.told earlier (t.told earlier is);
+  rest = t.met_are.0 ++ u.rest;
+  rest_is = u.rest_is ∙ ap (λ (x : List Exchange). x ++ u.rest) t.met_are.1 ∙ append_assoc h.met t.met_are.0 u.rest;
+  told = told_then h.begun t.met_are.0 h1.begun t.rest u.rest o.exchanges o1.exchanges o2.exchanges
+      (append_cancel_left h.met (t.met_are.0 ++ h1.begun) t.rest (sym (append_assoc h.met t.met_are.0 h1.begun) ∙ ap (λ (x : List Exchange). x ++ h1.begun) (sym t.met_are.1) ∙ t.rest_is))
+      t.told u.told;
   failed = faults_then p t.came u.came o.faults o1.faults o2.faults t.failed u.failed;
 }
 
@@ -191,6 +206,8 @@ went_wider wider p a b h h' l l' o o' t = record {
   decided = t.decided;
   refused = refused_all no_call wider p t.came (none_failed wider) t.refused;
   met_are = t.met_are;
+  rest = t.rest;
+  rest_is = t.rest_is;
   told = t.told;
   failed = t.failed;
 }

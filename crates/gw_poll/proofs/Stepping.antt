@@ -81,7 +81,9 @@ goes_turn p a b s s' h turn f is k text over stage refuses left o =
         decided = k.decided;
         refused = own_refused refuses p k.more k.unanswered;
         met_are = begins_with-self h.met;
-        told = λ earlier told. told ∙ ap (λ (l : List Exchange). Some (earlier ++ (h.met ++ l))) unasked.1;
+        rest = [];
+        rest_is = refl;
+        told = λ earlier told. told ∙ ap (λ (l : List Exchange). Some (earlier ++ l)) unasked.1;
         failed = inl (omega (arith, own_faults p k.more k.unanswered));
       };
       follows = record {
@@ -120,7 +122,9 @@ goes_asked p a b s s' h to sent head x f is k next over same_to same_bytes same_
         decided = k.decided;
         refused = tt;
         met_are = begins_with-self h.met;
-        told = λ earlier told. told ∙ ap (λ (l : List Exchange). Some (earlier ++ (h.met ++ l))) unasked.1;
+        rest = [];
+        rest_is = refl;
+        told = λ earlier told. told ∙ ap (λ (l : List Exchange). Some (earlier ++ l)) unasked.1;
         failed = inl (omega arith);
       };
       follows = record {
@@ -190,6 +194,8 @@ went_written refuses p w h piece left left' told told' x n unread takes = record
   decided = refl;
   refused = tt;
   met_are = begins_with-self h.met;
+  rest = h.begun;
+  rest_is = refl;
   told = λ earlier is. is;
   failed = inl (omega arith);
 }
@@ -252,10 +258,6 @@ gives_up_written p s s' h text from to left left' told told' f calmed later conn
 abbrev pub begun_on : History → List Exchange → History
 begun_on h met = record { bytes = h.bytes; over = h.over; parts = h.parts; met = h.met; asked = h.asked; begun = met; text = h.text }
 
-told_behind : (met begun begun' : List Exchange) (before after : Option (List Exchange)) → TellsOn begun begun' before after → TellsOn (met ++ begun) (met ++ begun') before after
-told_behind met begun begun' before after told = λ earlier is.
-    told (earlier ++ met) (is ∙ ap Some (sym (append_assoc earlier met begun))) ∙ ap Some (append_assoc earlier met begun')
-
 went_begun : (refuses : UpstreamCall → Socket → Type 0) (p : Place) (w : Worker) (h : History) (begun' : List Exchange) (left written : Option (List ℕ)) (before after : Option (List Exchange)) (n n' : ℕ)
     → TellsOn h.begun begun' before after → n ≤ n' → Went refuses p w w h (begun_on h begun') left left (outside written before n) (outside written after n')
 went_begun refuses p w h begun' left written before after n n' told later = record {
@@ -273,7 +275,9 @@ went_begun refuses p w h begun' left written before after n n' told later = reco
   decided = refl;
   refused = tt;
   met_are = begins_with-self h.met;
-  told = told_behind h.met h.begun begun' before after told;
+  rest = begun';
+  rest_is = refl;
+  told = told;
   failed = inl (omega (arith, later));
 }
 
@@ -375,7 +379,9 @@ goes_answered p s s' h x a before after n n' refuses w left written f over cause
         decided = refl;
         refused = (subst (λ (y : Action). RefusedBy refuses y (Some a)) (sym e.action) refused, tt);
         met_are = (over.met', refl);
-        told = λ earlier is. told_behind h.met h.begun over.met' before after over.told earlier is ∙ ap (λ (l : List Exchange). Some (earlier ++ l)) (sym (append-nil (h.met ++ over.met')));
+        rest = over.met';
+        rest_is = append-nil (h.met ++ over.met');
+        told = over.told;
         failed = subst (λ (y : Action). HasRisenBy (call_faults (row_by (length hd.changes) (decision_at p q hd).chosen y (Some a) ++ [])) n n') (sym e.action)
             (faults_answered (length hd.changes) (decision_at p q hd).chosen x.to x.bytes e.plan a n n' later cause);
       };
@@ -468,6 +474,8 @@ went_read refuses p w h piece left left' told told' x n gives ends unwritten = r
   decided = refl;
   refused = tt;
   met_are = begins_with-self h.met;
+  rest = h.begun;
+  rest_is = refl;
   told = λ earlier is. is;
   failed = inl (omega arith);
 }

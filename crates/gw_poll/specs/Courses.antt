@@ -7,7 +7,7 @@ use Rattle.gw_link.specs.declared.order.UpstreamCall.{UpstreamCall}
 use Rattle.gw_poll_exchange.specs.Polled.{IsJoined, StandsFor as ExchangeStandsFor}
 use Rattle.gw_poll_exchange.specs.declared.polled.PolledExchange.{PolledExchange}
 use Rattle.gw_text.specs.model.Addresses.{Socket}
-use Rattle.gw_worker.specs.Conns.{IsAllOf, IsAsking, IsFed, IsSettled, IsUnfinished, StandsFor, turns_left}
+use Rattle.gw_worker.specs.Conns.{IsAllOf, IsAsking, IsFed, IsServing, IsSettled, IsUnfinished, StandsFor, turns_left}
 use Rattle.gw_worker.specs.Exchanges.{Exchanged}
 use Rattle.gw_worker.specs.Flows.{Outside}
 use Rattle.gw_worker.specs.Turns.{AreUnanswered, IsExchange}
@@ -87,6 +87,13 @@ HasBegun (turns.Exchange to bytes head) c c' flow =
 -- The connection may be polled: no earlier poll has ended it, and where an exchange has a connection with a backend, the upstream has it.
 abbrev pub CanGoOn : Course → Option Socket → Type 0
 CanGoOn c at = ((bytes : List ℕ) × IsGoing c bytes) × IsHeld c.stage at
+
+-- No backend is asked, nothing is to be written, and further bytes may come: the connection may be polled whatever connection its upstream
+-- has.
+pub record IsIdle (c : Course) : Type 0 where
+  pub serving : IsServing c.conn
+  pub going : (at : Option Socket) → CanGoOn c at
+  pub written : unwritten c.stage ≡ []
 
 -- How many steps are left at most before bytes are read.
 abbrev pub stage_steps : Stage → ℕ

@@ -50,8 +50,9 @@ bare a_close = a_close
 bare a_cut = a_cut
 
 -- A history goes on: further bytes are read and further ones written; more came of the bytes and has its reply; `fresh` is what came in
--- this stretch, each request of it decided by the worker; what is exchanged stands where it stood, or behind it; and as many calls of the
--- upstream failed at least as there are new rows with such a fault, each at its row's socket.
+-- this stretch, each request of it decided by the worker; what is exchanged stands where it stood, or behind it, whatever the upstream
+-- tells in front of what was begun; and as many calls of the upstream failed at least as there are new rows with such a fault, each at its
+-- row's socket.
 pub record Went (refuses : UpstreamCall → Socket → Type 0) (p : Place) (w w' : Worker) (h h' : History) (left left' : Option (List ℕ)) (o o' : Outside) : Type 0 where
   pub read : List ℕ
   pub wrote : List ℕ
@@ -67,7 +68,9 @@ pub record Went (refuses : UpstreamCall → Socket → Type 0) (p : Place) (w w'
   pub decided : Decided p w w' fresh
   pub refused : AreRefused refuses p came
   pub met_are : BeginsWith h.met h'.met
-  pub told : TellsOn (h.met ++ h.begun) (h'.met ++ h'.begun) o.exchanges o'.exchanges
+  pub rest : List Exchange
+  pub rest_is : h'.met ++ h'.begun ≡ h.met ++ rest
+  pub told : TellsOn h.begun rest o.exchanges o'.exchanges
   pub failed : HasRisenBy (call_faults (rows_of p came)) o.faults o'.faults
 
 -- A history is a whole session of the bytes read: what came is all that they give, with one row for each request, each whole and

@@ -1,8 +1,10 @@
-ghost use Rattle.std.specs.Prelude.{◌≡◌, ◌⊎◌, ◌<◌, ◌≤◌, ℕ, [], length, None, Some, Option};
+ghost use Rattle.std.specs.Prelude.{◌≡◌, ◌⊎◌, ◌<◌, ◌≤◌, ℕ, [], length, true, None, Some, Option, IfSome};
 ghost use Rattle.std.specs.Borrow.{Lends, sem};
 ghost use Rattle.futures.specs.Poll.{OnPending};
 ghost use Rattle.futures.specs.Task.{Keeps as KeepsTask};
+ghost use Rattle.gw_frames.specs.Inlets.{is_over};
 ghost use Rattle.gw_link.specs.Faults.{HasRisen};
+ghost use Rattle.gw_link.specs.Pieces.{Keeps};
 ghost use Rattle.gw_polling.specs.Polls.{IfDone, OnFailed, HasNoMark, NoneCame, IsUsedUp};
 ghost use Rattle.gw_snap.specs.Lists.{BeginsWith};
 ghost use Rattle.gw_text.specs.model.Addresses.{Socket as Address};
@@ -10,7 +12,7 @@ ghost use Rattle.gw_worker.specs.Flows.{outside};
 ghost use Rattle.gw_worker.specs.Workers.{IsAt};
 ghost use Rattle.gw_worker.specs.model.Sessions.{Place};
 ghost use Rattle.gw_poll.specs.Causes.{OnGoing, IfFailed, HasCause, CountsRefusedIn, HasWaited};
-ghost use Rattle.gw_poll.specs.Courses.{CanGoOn, Follows, GivesUp, GoesTo};
+ghost use Rattle.gw_poll.specs.Courses.{CanGoOn, Follows, GivesUp, GoesTo, IsIdle};
 ghost use Rattle.gw_poll.specs.Histories.{History, IsSession, no_history};
 ghost use Rattle.gw_poll.specs.contracts.conn_future.ConnFuture.{the_row};
 
@@ -35,6 +37,7 @@ impl<K: PollLink, U: PollUpstream> ConnFuture<K, U> {
     pub fn new(alloc: Global, door: usize, link: K, up: U) -> ConnFuture<K, U>
         ensures follows { (p : Place) → p.door ≡ door → Follows p result.course no_history }
         ensures going { (at : Option Address) → CanGoOn result.course at }
+        ensures idle { IsIdle result.course }
         ensures door { result.course.conn.door ≡ door }
         ensures rows { result.course.conn.rows ≡ [] }
         ensures link { result.link ≡ link }
@@ -79,6 +82,14 @@ impl<K: PollLink, U: PollUpstream> ConnFuture<K, U> {
             ⊎ (HasWaited cx.new (K.source self.new.link) (K.write_waits self.old.link) (K.write_waits self.new.link)
             ⊎ HasWaited cx.new (U.source self.new.up) (U.waits self.old.up) (U.waits self.new.up))) }
         ensures going { OnPending result (CanGoOn self.new.course (U.at self.new.up)) }
+
+        // Where no mark was to come, it may be polled with whatever connection the upstream has then.
+        ensures idle { OnPending result (HasNoMark (K.marks self.old.link) → HasNoMark (U.marks self.old.up) → IsIdle self.new.course) }
+
+        // The end of the bytes is read only where it stood, as far as the link tells.
+        ensures over { OnGoing result (is_over self.new.course.conn.inlet ≡ true
+            → (is_over self.old.course.conn.inlet ≡ true) ⊎ IfSome (K.end self.old.link) (λ told. IfSome (K.end self.new.link) (λ has_end. has_end ≡ true))) }
+        ensures unended { Keeps (K.end self.old.link) (K.end self.new.link) }
 
         // What it is given up by. A reading of the pass that was refused is counted there, and nowhere else.
         ensures cause { IfFailed result (HasCause (K.faults self.old.link) (K.faults self.new.link)) }

@@ -1,5 +1,5 @@
 //! How far a polled connection came, whatever its link and its upstream are.
-ghost use Rattle.std.specs.Prelude.{◌≡◌, ◌⊎◌, ◌<◌, ◌≤◌, ◌*◌, ◌+◌, ◌==◌, ◌++◌, ℕ, List, [], length, false, take, None, Some, Option, IfSome};
+ghost use Rattle.std.specs.Prelude.{◌≡◌, ◌⊎◌, ◌<◌, ◌≤◌, ◌*◌, ◌+◌, ◌==◌, ◌++◌, ℕ, List, [], length, true, false, take, None, Some, Option, IfSome};
 ghost use Rattle.futures.specs.Poll.{OnPending};
 ghost use Rattle.futures.specs.Task.{Keeps as KeepsTask};
 ghost use Rattle.gw_exchange.specs.declared.backend.TheConstants.{MOST_PIECE};
@@ -18,7 +18,7 @@ ghost use Rattle.gw_worker.specs.declared.conn.Stage.TheVariants.{Ended as HasEn
 ghost use Rattle.gw_worker.specs.model.Sessions.{Part, Place};
 ghost use Rattle.gw_worker.specs.model.Workers.{Worker as PlainWorker};
 ghost use Rattle.gw_poll.specs.Causes.{OnGoing, IfFailed, HasCause, CountsRefusedIn, HasWaited};
-ghost use Rattle.gw_poll.specs.Courses.{CanGoOn, Follows, GivesUp, GoesTo, HasBegun, IsGoing, IsHeld, IsReplied, steps_left};
+ghost use Rattle.gw_poll.specs.Courses.{CanGoOn, Follows, GivesUp, GoesTo, HasBegun, IsGoing, IsHeld, IsIdle, IsReplied, steps_left};
 ghost use Rattle.gw_poll.specs.Histories.{History, IsSession, no_call, no_history};
 
 use futures::task::{Context, Poll};
@@ -58,6 +58,7 @@ impl Course {
     pub(crate) fn new(alloc: Global, door: usize) -> Course
         ensures follows { (p : Place) → p.door ≡ door → Follows p result no_history }
         ensures going { (at : Option Address) → CanGoOn result at }
+        ensures idle { IsIdle result }
         ensures door { result.conn.door ≡ door }
         ensures rows { result.conn.rows ≡ [] }
     {
@@ -106,6 +107,10 @@ impl Course {
         ensures used_up { OnPending result (HasNoMark (K.marks link.old) → HasNoMark (U.marks up.old)
             → IsUsedUp (K.left link.new) (K.end link.new) × ((p : Place) (h : History) → Follows p self.new h → IsSession p h self.new.conn.rows None)) }
         ensures going { OnPending result (CanGoOn self.new (U.at up.new)) }
+        ensures idle { OnPending result (HasNoMark (K.marks link.old) → HasNoMark (U.marks up.old) → IsIdle self.new) }
+        ensures over { OnGoing result (is_over self.new.conn.inlet ≡ true
+            → (is_over self.old.conn.inlet ≡ true) ⊎ IfSome (K.end link.old) (λ told. IfSome (K.end link.new) (λ has_end. has_end ≡ true))) }
+        ensures unended { Keeps (K.end link.old) (K.end link.new) }
         ensures cause { IfFailed result (HasCause (K.faults link.old) (K.faults link.new)) }
         ensures waits { OnPending result (HasWaited cx.new (K.source link.new) (K.read_waits link.old) (K.read_waits link.new)
             ⊎ (HasWaited cx.new (K.source link.new) (K.write_waits link.old) (K.write_waits link.new)
@@ -162,6 +167,8 @@ impl Course {
         ensures stage { OnDone result (self.new.stage ≡ Stage.Turning) }
         ensures within { IfDone result (λ size. size ≤ length buffer.new) }
         ensures over { IfDone result (λ size. is_over self.new.conn.inlet ≡ (size == 0)) }
+        ensures ends { result ≡ Poll.Ready (Ok 0) → IfSome (K.end link.new) (λ has_end. has_end ≡ true) }
+        ensures unended { Keeps (K.end link.old) (K.end link.new) }
         ensures cause { IfFailed result (HasCause (K.faults link.old) (K.faults link.new)) }
         ensures no_place { IfFailed result (λ fault. fault ≡ ConnFault.Place → ⊥) }
         ensures waits { OnPending result (HasWaited cx.new (K.source link.new) (K.read_waits link.old) (K.read_waits link.new)) }

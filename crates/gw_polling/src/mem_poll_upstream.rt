@@ -53,6 +53,14 @@ impl MemPollUpstream {
         &self.up
     }
 
+    /// The upstream that it is made of, handed back.
+    pub fn into_upstream(self) -> MemUpstream
+        ensures { result ≡ self.up }
+    {
+        let MemPollUpstream { up, marks: _ } = self;
+        up
+    }
+
     /// The calls to come before which it isn't ready.
     pub fn marks(&self) -> &[u64]
         ensures { result.now ≡ self.now.marks.marks }

@@ -10,3 +10,12 @@ pub returns-clause-going : goal.returns-clause-going
 returns-clause-going c = λ at.
     let stands = c.new.ensures.stands (record { doors = []; controller = []; door = c.args.door }) refl in
     (([], record { fed = ([], stands.inlet); at = settled_of _ c.new.ensures.reading }), tt)
+
+pub returns-clause-idle : goal.returns-clause-idle
+returns-clause-idle c =
+    let stands = c.new.ensures.stands (record { doors = []; controller = []; door = c.args.door }) refl in
+    record {
+      serving = record { bytes = []; fed = ([], stands.inlet); reading = c.new.ensures.reading; unfinished = c.new.ensures.unfinished };
+      going = λ at. (([], record { fed = ([], stands.inlet); at = settled_of _ c.new.ensures.reading }), tt);
+      written = refl;
+    }

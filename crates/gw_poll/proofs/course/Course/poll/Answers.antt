@@ -1,7 +1,9 @@
 -- Bytes are read, and what they give is served.
-use Rattle.std.proofs.Common.{◌∙◌, ◌+◌, ◌++◌, [], ℕ, List, Ok, length-append, append-nil, append_assoc, inl, inr, ap, refl, sym, subst, arith}
+use Rattle.std.proofs.Common.{◌∙◌, ◌++◌, [], ℕ, List, Ok, length-append, append-nil, append_assoc, inl, inr, ap, refl, sym, subst, arith}
 use Rattle.futures.specs.declared.task.Poll.TheVariants.{Ready}
+use Rattle.gw_frames.specs.Inlets.{is_over}
 use Rattle.gw_link.proofs.FaultLemmas.{HasRisen-then}
+use Rattle.gw_link.proofs.KeptLemmas.{keeps_self, keeps_then}
 use Rattle.gw_link.specs.declared.order.UpstreamCall.{UpstreamCall}
 use Rattle.gw_lists.proofs.Beginnings.{begins_with-self, begins_with-trans}
 use Rattle.gw_text.specs.model.Addresses.{Socket}
@@ -10,9 +12,10 @@ use Rattle.gw_worker.specs.Faults.{CountsRefused}
 use Rattle.gw_poll.proofs.Going.{gives_up_then, goes_self, goes_then, none_failed}
 use Rattle.gw_poll.proofs.Keeping.{hungry_at, not_refused}
 use Rattle.gw_poll.proofs.Stepping.{session_ended}
-use Rattle.gw_poll.proofs.Waiting.{cause_since, either_map, fewer_left, neither, still_session, waited_since}
+use Rattle.gw_poll.proofs.Waiting.{cause_since, either_map, fewer_left, idle_reading, neither, none_read, over_still, stands_end, still_session, waited_since}
 use Rattle.gw_poll.specs.Courses.{IsGoing}
 use Rattle.gw_poll.specs.Histories.{no_call}
+use Rattle.gw_poll.specs.declared.course.Course.{Course}
 use Rattle.gw_poll.proofs.course.Course.poll.Goals as goal
 
 pub pieces-init : goal.pieces-init
@@ -24,6 +27,8 @@ pieces-init g c = record {
   link_later = omega arith;
   read_waits = omega arith;
   write_waits = omega arith;
+  over = λ over. inl over;
+  unended = keeps_self _;
   link_unmarked = λ none. none;
   link_same = refl;
   up_later = omega arith;
@@ -44,6 +49,12 @@ pub returns-in-Ready-Ok-Ended-clause-ends : goal.returns-in-Ready-Ok-Ended-claus
 returns-in-Ready-Ok-Ended-clause-ends g c = λ p h f.
     let ended = (rw c.in-Ready-Ok-Ended.field-0-is at c.in-Ready-Ok-Ended.ensures.ended) c.in-Ready-Ok-Ended.why c.in-Ready-Ok-Ended.field-0-0-is in
     session_ended p c.serve.new.self h c.in-Ready-Ok-Ended.why f ended.0 ended.1
+
+pub returns-in-Ready-Ok-Ended-clause-over : goal.returns-in-Ready-Ok-Ended-clause-over
+returns-in-Ready-Ok-Ended-clause-over g c = over_still _ _ _ _ _ _ c.serve.ensures.over c.pieces.invariant.unended c.serve.ensures.unended c.pieces.invariant.over
+
+pub returns-in-Ready-Ok-Ended-clause-unended : goal.returns-in-Ready-Ok-Ended-clause-unended
+returns-in-Ready-Ok-Ended-clause-unended g c = keeps_then _ _ _ c.pieces.invariant.unended c.serve.ensures.unended
 
 pub serve-requires-clause-going : goal.serve-requires-clause-going
 serve-requires-clause-going g c =
@@ -80,6 +91,9 @@ pub returns-in-Ready-Err-clause-cause : goal.returns-in-Ready-Err-clause-cause
 returns-in-Ready-Err-clause-cause g c =
     cause_since _ _ _ c.in-Ready-Err.fault c.pieces.invariant.link_later (rw c.in-Ready-Err.field-0-is at c.in-Ready-Err.ensures.cause)
 
+pub returns-in-Ready-Err-clause-unended : goal.returns-in-Ready-Err-clause-unended
+returns-in-Ready-Err-clause-unended g c = keeps_then _ _ _ c.pieces.invariant.unended c.serve.ensures.unended
+
 pub returns-in-Pending-clause-goes : goal.returns-in-Pending-clause-goes
 returns-in-Pending-clause-goes g c = λ p h at f.
     let refuses = g.U.PollUpstream.refuses in
@@ -98,6 +112,17 @@ returns-in-Pending-clause-going g c =
     let bytes = c.requires.going.0.0 in
     let on = c.pieces.invariant.going bytes c.requires.going.0.1 in
     ((bytes ++ on.0, c.in-Pending.ensures.going (bytes ++ on.0) on.1.1), c.in-Pending.ensures.held)
+
+-- It waits in serving only where a mark was to come.
+pub returns-in-Pending-clause-idle : goal.returns-in-Pending-clause-idle
+returns-in-Pending-clause-idle g c = λ none up_none.
+    absurd (c.in-Pending.ensures.ready (c.pieces.invariant.link_unmarked none) (c.pieces.invariant.up_unmarked up_none))
+
+pub returns-in-Pending-clause-over : goal.returns-in-Pending-clause-over
+returns-in-Pending-clause-over g c = over_still _ _ _ _ _ _ c.serve.ensures.over c.pieces.invariant.unended c.serve.ensures.unended c.pieces.invariant.over
+
+pub returns-in-Pending-clause-unended : goal.returns-in-Pending-clause-unended
+returns-in-Pending-clause-unended g c = keeps_then _ _ _ c.pieces.invariant.unended c.serve.ensures.unended
 
 pub returns-in-Pending-clause-waits : goal.returns-in-Pending-clause-waits
 returns-in-Pending-clause-waits g c =
@@ -139,6 +164,9 @@ pub returns-in-Ready-Err-read-clause-cause : goal.returns-in-Ready-Err-read-clau
 returns-in-Ready-Err-read-clause-cause g c =
     cause_since _ _ _ c.in-Ready-Err-read.fault (omega (arith, c.pieces.invariant.link_later, c.serve.ensures.link_later)) (rw c.in-Ready-Err-read.field-0-is at c.in-Ready-Err-read.ensures.cause)
 
+pub returns-in-Ready-Err-read-clause-unended : goal.returns-in-Ready-Err-read-clause-unended
+returns-in-Ready-Err-read-clause-unended g c = keeps_then _ _ _ c.pieces.invariant.unended (keeps_then _ _ _ c.serve.ensures.unended c.read.ensures.unended)
+
 pub returns-in-Pending-read-clause-goes : goal.returns-in-Pending-read-clause-goes
 returns-in-Pending-read-clause-goes g c = λ p h at f.
     let refuses = g.U.PollUpstream.refuses in
@@ -160,6 +188,22 @@ returns-in-Pending-read-clause-going g c =
     let on = c.pieces.invariant.going bytes c.requires.going.0.1 in
     let went = (rw c.in-Ready-Ok-More.field-0-is at c.in-Ready-Ok-More.ensures.going) (bytes ++ on.0) on.1.1 in
     rw c.in-Pending-read.ensures.same ((bytes ++ on.0, went), rw c.in-Ready-Ok-More.field-0-is at c.in-Ready-Ok-More.ensures.held)
+
+pub returns-in-Pending-read-clause-idle : goal.returns-in-Pending-read-clause-idle
+returns-in-Pending-read-clause-idle g c = λ none up_none.
+    let bytes = c.requires.going.0.0 in
+    let on = c.pieces.invariant.going bytes c.requires.going.0.1 in
+    let went = (rw c.in-Ready-Ok-More.field-0-is at c.in-Ready-Ok-More.ensures.going) (bytes ++ on.0) on.1.1 in
+    let reading = c.serve.ensures.more (c.in-Ready-Ok-More.is ∙ ap Ready (c.in-Ready-Ok-More.field-0-is ∙ ap Ok c.in-Ready-Ok-More.field-0-0-is)) in
+    idle_reading c.serve.new.self c.read.new.self (bytes ++ on.0) c.in-Pending-read.ensures.same reading went
+
+pub returns-in-Pending-read-clause-over : goal.returns-in-Pending-read-clause-over
+returns-in-Pending-read-clause-over g c =
+    over_still _ _ _ _ _ _ (ap (λ (s : Course). is_over s.conn.inlet) c.in-Pending-read.ensures.same ∙ c.serve.ensures.over) c.pieces.invariant.unended
+    (keeps_then _ _ _ c.serve.ensures.unended c.read.ensures.unended) c.pieces.invariant.over
+
+pub returns-in-Pending-read-clause-unended : goal.returns-in-Pending-read-clause-unended
+returns-in-Pending-read-clause-unended g c = keeps_then _ _ _ c.pieces.invariant.unended (keeps_then _ _ _ c.serve.ensures.unended c.read.ensures.unended)
 
 pub returns-in-Pending-read-clause-waits : goal.returns-in-Pending-read-clause-waits
 returns-in-Pending-read-clause-waits g c =
@@ -233,6 +277,9 @@ pieces-preserved g c =
       link_later = omega (arith, i.link_later, c.serve.ensures.link_later, c.read.ensures.link_later);
       read_waits = omega (arith, i.read_waits, c.serve.ensures.unread_waits, c.read.ensures.read_waits);
       write_waits = omega (arith, i.write_waits, c.serve.ensures.write_waits, c.read.ensures.unwritten_waits);
+      over = λ over.
+          inr (stands_end _ _ (c.read.ensures.ends (c.in-Ready-Ok.is ∙ ap Ready (c.in-Ready-Ok.field-0-is ∙ ap Ok (none_read c.in-Ready-Ok.size (sym (rw c.in-Ready-Ok.field-0-is at c.in-Ready-Ok.ensures.over) ∙ over))))));
+      unended = keeps_then _ _ _ i.unended (keeps_then _ _ _ c.serve.ensures.unended c.read.ensures.unended);
       link_unmarked = λ none. c.read.ensures.link_unmarked (c.serve.ensures.link_unmarked (i.link_unmarked none));
       link_same = c.read.ensures.link_same ∙ c.serve.ensures.link_same ∙ i.link_same;
       up_later = omega (arith, i.up_later, c.serve.ensures.up_later);

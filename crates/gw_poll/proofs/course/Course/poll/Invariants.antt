@@ -1,8 +1,9 @@
 -- The connection went on so far, and so many bytes were taken.
-use Rattle.std.proofs.Common.{◌≡◌, ◌≤◌, ◌+◌, ◌-◌, ℕ, List, ◌++◌, length}
+use Rattle.std.proofs.Common.{◌≡◌, ◌≤◌, ◌+◌, ◌-◌, ◌⊎◌, ℕ, true, List, ◌++◌, length}
 use Rattle.futures.specs.Task.{Keeps as KeepsTask}
 use Rattle.gw_frames.specs.Inlets.{is_over}
 use Rattle.gw_exchange.specs.declared.backend.TheConstants.{MOST_PIECE}
+use Rattle.gw_link.specs.Pieces.{Keeps}
 use Rattle.gw_message_laws.specs.declared.requests.TheConstants.{MOST_OPEN_BYTES}
 use Rattle.gw_polling.specs.Polls.{NoneCame}
 use Rattle.gw_snap.specs.Lists.{BeginsWith}
@@ -12,6 +13,7 @@ use Rattle.gw_worker.specs.model.Sessions.{Place}
 use Rattle.gw_poll.specs.Courses.{Follows, GoesTo, IsGoing, IsHeld}
 use Rattle.gw_poll.specs.Histories.{History}
 use Rattle.gw_poll.proofs.Stepping.{not_over}
+use Rattle.gw_poll.proofs.Waiting.{StandsEnd}
 use Rattle.gw_poll.proofs.course.Course.poll.Given as goal
 
 abbrev pub invariant-pieces : goal.invariant-pieces
@@ -26,6 +28,8 @@ invariant-pieces g l = record {
   link_later : g.K.PollLink.faults l.fn.link ≤ g.K.PollLink.faults l.link;
   read_waits : g.K.PollLink.read_waits l.fn.link ≤ g.K.PollLink.read_waits l.link;
   write_waits : g.K.PollLink.write_waits l.fn.link ≤ g.K.PollLink.write_waits l.link;
+  over : is_over l.self.conn.inlet ≡ true → (is_over l.fn.self.conn.inlet ≡ true) ⊎ StandsEnd (g.K.PollLink.end l.fn.link) (g.K.PollLink.end l.link);
+  unended : Keeps (g.K.PollLink.end l.fn.link) (g.K.PollLink.end l.link);
   link_unmarked : NoneCame (g.K.PollLink.marks l.fn.link) (g.K.PollLink.marks l.link);
   link_same : g.K.PollLink.source l.link ≡ g.K.PollLink.source l.fn.link;
   up_later : g.U.PollUpstream.faults l.fn.up ≤ g.U.PollUpstream.faults l.up;

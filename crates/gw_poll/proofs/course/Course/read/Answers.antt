@@ -1,10 +1,10 @@
 -- What is read is taken.
-use Rattle.std.proofs.Common.{◌∙◌, ◌==◌, Ok, ap, refl, sym, take, arith}
+use Rattle.std.proofs.Common.{◌≡◌, ◌∙◌, ◌==◌, ℕ, Ok, ap, length, refl, sym, take, arith}
 use Rattle.std.proofs.lemmas.List.{length-take-le}
 use Rattle.futures.specs.declared.task.Poll.TheVariants.{Ready}
 use Rattle.gw_worker.proofs.Linking.{empty_size}
 use Rattle.gw_poll.proofs.Going.{goes_kept}
-use Rattle.gw_poll.proofs.Keeping.{done_both, failed_map, going_done, hungry_at, if_done_both}
+use Rattle.gw_poll.proofs.Keeping.{done_at, done_both, failed_map, going_done, hungry_at, if_done_both}
 use Rattle.gw_poll.proofs.Stepping.{gives_up_unfed, gives_up_unread, goes_read}
 use Rattle.gw_poll.specs.Histories.{no_call}
 use Rattle.gw_poll.proofs.course.Course.read.Goals as goal
@@ -38,6 +38,13 @@ returns-in-Ready-Ok-clause-within g c =
 
 pub returns-in-Ready-Ok-clause-over : goal.returns-in-Ready-Ok-clause-over
 returns-in-Ready-Ok-clause-over g c = if_done_both c.take.result (λ size is over. over ∙ ap (λ n. n == 0) (sym is)) c.take.ensures.size c.take.ensures.over
+
+pub returns-in-Ready-Ok-clause-ends : goal.returns-in-Ready-Ok-clause-ends
+returns-in-Ready-Ok-clause-ends g c = λ is.
+    let within = rw c.in-Ready-Ok.field-0-is at c.in-Ready-Ok.ensures.within in
+    let none = done_at (λ (n : ℕ). n ≡ length (take c.in-Ready-Ok.size c.poll_read.new.buf)) c.take.result 0 is c.take.ensures.size in
+    let empty : c.in-Ready-Ok.size ≡ 0 = omega (arith, none, length-take-le c.in-Ready-Ok.size c.poll_read.new.buf within) in
+    (c.poll_read.ensures.ends (c.in-Ready-Ok.is ∙ ap Ready (c.in-Ready-Ok.field-0-is ∙ ap Ok empty))).1
 
 pub returns-in-Ready-Err-clause-broke : goal.returns-in-Ready-Err-clause-broke
 returns-in-Ready-Err-clause-broke g c = λ w p h x n f.
