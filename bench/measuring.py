@@ -8,6 +8,38 @@ import tempfile
 TOP = os.path.dirname(os.path.dirname(os.path.abspath(__file__)))
 
 
+# A function of a program: the table of the first door in a world.
+FIRST_TABLE = r"""// The table of the first door.
+fn first_table(alloc: Global, world: &World, doors: &Doors, controller: &Text) -> Result<Option<DoorTable>, NoMemory> {
+    if doors.doors().is_empty() {
+        return Ok(None);
+    }
+    // The Routes stand in key order, so the rows of the door are such as a table is made of.
+    let _routes = world.routes();
+    rows_of_a_door_stand_listener_by_listener();
+    let rows = eval_rows(alloc, world, doors, controller, 0)?;
+    Ok(Some(DoorTable::compile(alloc, rows)?))
+}
+
+"""
+
+# Where the Routes stand in key order, the rows of a door are such as a table is made of.
+TABLE_PROOFS = {"proofs/first_table/Answers.antt": """use Rattle.std.proofs.Common.{[], subst, sym}
+use Rattle.gw_match.specs.model.Listed.{AreRowsOfDoor}
+use Rattle.gw_text.specs.model.Doors.{Door}
+use Rattle.measured.proofs.first_table.Goals as goal
+
+-- a door, which one doesn't matter
+some_door : Door
+some_door = record { gateway = record { namespace = []; name = [] }; port = 0; at = record { a = 0; b = 0; c = 0; d = 0; port = 0 } }
+
+pub compile-requires : goal.compile-requires
+compile-requires c =
+    subst AreRowsOfDoor (sym (c.in_ok-rows.ensures some_door))
+    (c.rows_of_a_door_stand_listener_by_listener.ensures _ _ _ _ (rw c.routes-routes.ensures.value at c.routes-routes.ensures.order))
+"""}
+
+
 def stands_on():
     """What each crate stands on, by crates.txt."""
     crates = {}
