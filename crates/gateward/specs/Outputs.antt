@@ -49,7 +49,7 @@ IsOutputOf a_status doors controller input told ending text =
     IsDone (λ refused. IsOutputBy (status_results_text doors controller) input told text refused) ending
 IsOutputOf (an_explanation at q) doors controller input told ending text =
     IsDone (λ refused. IsOutputBy (explanation_results_text doors controller at q) input told text refused) ending
-IsOutputOf (a_replay workers) doors controller input told ending text = IsReplayed doors controller workers input told ending text
+IsOutputOf (a_replay workers polled) doors controller input told ending text = IsReplayed doors controller workers input told ending text
 IsOutputOf (a_generation words) doors controller input told ending text = ⊥
 IsOutputOf (a_service workers conns admin polled) doors controller input told ending text = ⊥
 

@@ -16,11 +16,12 @@ use gw_report::{Output, explanation_output, status_output};
 use gw_snap::SnapFaults;
 use gw_store::first_line;
 use gw_text::{NoMemory, Text};
-use std::alloc::Global;
+use std::alloc::{AllocGlobal, Global};
+use std::random::RandomSource;
 use std::sync::Wait;
 
 /// What the program is set to write of `input`.
-pub fn output_of<R: Wait, C: Clock>(
+pub fn output_of<R: Wait + RandomSource + AllocGlobal, C: Clock>(
     rt: &R,
     alloc: Global,
     setting: Setting,
@@ -53,9 +54,9 @@ pub fn output_of<R: Wait, C: Clock>(
             input,
             clock,
         )?)),
-        Task::Replay(workers) => {
-            replay_output(rt, alloc, doors, controller, workers, input, clock, snap)
-        }
+        Task::Replay(workers, polled) => replay_output(
+            rt, alloc, doors, controller, workers, polled, input, clock, snap,
+        ),
         Task::Generate(_) => unreachable!(),
         Task::Serve(_, _, _, _) => unreachable!(),
     }
@@ -73,7 +74,7 @@ fn done(output: Output) -> Replayed
 }
 
 /// What the program is set to write of a script: all of it, or where the script is run the last line alone.
-pub fn generation_output<R: Wait, C: Clock>(
+pub fn generation_output<R: Wait + RandomSource + AllocGlobal, C: Clock>(
     rt: &R,
     alloc: Global,
     words: GenerateWords,
@@ -100,7 +101,7 @@ pub fn generation_output<R: Wait, C: Clock>(
 }
 
 // What a script's replay prints last, with one worker and at the script's own door.
-fn run_output<R: Wait, C: Clock>(
+fn run_output<R: Wait + RandomSource + AllocGlobal, C: Clock>(
     rt: &R,
     alloc: Global,
     script: &[u8],
@@ -115,7 +116,7 @@ fn run_output<R: Wait, C: Clock>(
 {
     let doors = script_doors(alloc)?;
     let controller = Text::of(alloc, DEFAULT_CONTROLLER)?;
-    let whole = replay_output(rt, alloc, doors, controller, 1, script, clock, snap)?;
+    let whole = replay_output(rt, alloc, doors, controller, 1, false, script, clock, snap)?;
     let text = last_line(alloc, whole.text.bytes())?;
     Ok(Replayed {
         text,

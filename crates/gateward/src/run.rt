@@ -205,7 +205,7 @@ fn run_service<
 }
 
 // Writes a script, or runs it and writes the last line of that.
-fn run_generation<K: Sink, C: Clock, R: Wait>(
+fn run_generation<K: Sink, C: Clock, R: Wait + RandomSource + AllocGlobal>(
     rt: &R,
     alloc: Global,
     words: GenerateWords,

@@ -176,20 +176,53 @@ replay_has_workers = record {
 replay_each : (P : Text → Type 0) → P (codes "controller") → P (codes "workers") → (name : Text) → is_among replay_options name ≡ true → P name
 replay_each P a b name = here P (codes "controller") name (codes "workers" ∷ []) a (here P (codes "workers") name [] b (nobody P name))
 
-replay_found : (p : Plain) → is_plain replay_options p ≡ true → found_in replay_app (codes "replay" ∷ plain_words p) ≡ Some (rows_in p)
+replay_has_polled : IsFlag for_replay.top.rules (codes "polled")
+unfolding clap_on_literals
+replay_has_polled = record { by_long = refl; alone = refl; alone_dashes = refl }
+
+-- the flag that is given needs no default
+replay_polled_given : (rows : List Row) → has_row (codes "polled") rows ≡ true
+    → (defaults_fault rows for_replay.top.rules ≡ []) × (fold with_default rows for_replay.top.rules ≡ rows)
+unfolding defaults_fault
+replay_polled_given rows there = (simp (or_true, same_both, there) refl, simp (same_both, there) refl)
+
+-- and one that isn't given has it
+replay_polled_left_out : (rows : List Row) → has_row (codes "polled") rows ≡ false
+    → (defaults_fault rows for_replay.top.rules ≡ []) × (fold with_default rows for_replay.top.rules ≡ rows ++ no_flag_row (codes "polled") ∷ [])
+unfolding defaults_fault
+replay_polled_left_out rows none = (
+  simp (or_true, same_both, none) refl,
+  simp (same_both, none) (at_none (codes "polled") (more_values DefaultValue (codes "false" ∷ [])) (no_flag_row (codes "polled") ∷ []) rows none),
+)
+
+replay_takes : TakesFlag for_replay.top replay_options (codes "polled")
+replay_takes = record {
+  options = replay_each (IsOption for_replay.top.rules) replay_has_controller replay_has_workers;
+  flag = replay_has_polled;
+  others = replay_each (λ name. (bytes_eq name (codes "polled") ≡ false) × (bytes_eq (codes "polled") name ≡ false)) (refl, refl) (refl, refl);
+  no_door = (refl, refl);
+  again = refl;
+  given = replay_polled_given;
+  left_out = replay_polled_left_out;
+  check = λ rows. refl;
+}
+
+replay_found : (p : Flagged) → is_plain replay_options (without_flag p) ≡ true
+    → found_in replay_app (codes "replay" ∷ flagged_words (codes "polled") p) ≡ Some (flagged_rows (codes "polled") p)
 unfolding found_in
 replay_found p plain =
     ap (λ (r : Kinds × List Row). if length r.0 == 0 then Some r.1 else None)
-    (plain_taken for_replay replay_options p replay_doors refl (replay_each (IsOption for_replay.top.rules) replay_has_controller replay_has_workers) plain refl)
+    (flagged_taken for_replay replay_options (codes "polled") p replay_takes (takes_these replay_doors p.doors) plain)
 
-replay_values : (p : Plain) → is_plain replay_options p ≡ true → replay_in (rows_in p) ≡ plain_replay p
+replay_values : (p : Flagged) → is_plain replay_options (without_flag p) ≡ true → replay_in (flagged_rows (codes "polled") p) ≡ plain_replay p
 replay_values p plain =
-    ap₂ (λ controller workers. replay_by controller workers (doors_in (rows_in p)))
-    (value_in_rows (codes "controller") p.options p.doors refl) (value_in_rows (codes "workers") p.options p.doors refl)
-    ∙ ap (replay_by (value_given (codes "controller") p.options) (value_given (codes "workers") p.options))
-    (others_of replay_options p (replay_each no_door refl refl) plain)
+    let rows : List Row = flagged_rows (codes "polled") p in
+    ap₂ (λ controller workers. replay_by controller workers (is_given (first_of (codes "polled") rows)) (doors_in rows))
+    (value_in_flagged (codes "controller") (codes "polled") p refl refl) (value_in_flagged (codes "workers") (codes "polled") p refl refl)
+    ∙ ap₂ (replay_by (value_given (codes "controller") (p.before ++ p.behind)) (value_given (codes "workers") (p.before ++ p.behind)))
+    (flag_in_flagged replay_options (codes "polled") p replay_takes plain) (doors_in_flagged replay_options (codes "polled") p replay_takes plain)
 
-replay_read : (p : Plain) → is_plain replay_options p ≡ true → replay_of (codes "replay" ∷ plain_words p) ≡ plain_replay p
+replay_read : (p : Flagged) → is_plain replay_options (without_flag p) ≡ true → replay_of (codes "replay" ∷ flagged_words (codes "polled") p) ≡ plain_replay p
 unfolding replay_of
 replay_read p plain = ap (λ found. found >>= replay_in) (replay_found p plain) ∙ replay_values p plain
 
@@ -368,16 +401,16 @@ unfolding clap_on_literals
 serve_has_polled = record { by_long = refl; alone = refl; alone_dashes = refl }
 
 -- the flag that is given needs no default
-polled_given : (rows : List Row) → has_row (codes "polled") rows ≡ true
+serve_polled_given : (rows : List Row) → has_row (codes "polled") rows ≡ true
     → (defaults_fault rows for_serve.top.rules ≡ []) × (fold with_default rows for_serve.top.rules ≡ rows)
 unfolding defaults_fault
-polled_given rows there = (simp (or_true, same_both, there) refl, simp (same_both, there) refl)
+serve_polled_given rows there = (simp (or_true, same_both, there) refl, simp (same_both, there) refl)
 
 -- and one that isn't given has it
-polled_left_out : (rows : List Row) → has_row (codes "polled") rows ≡ false
+serve_polled_left_out : (rows : List Row) → has_row (codes "polled") rows ≡ false
     → (defaults_fault rows for_serve.top.rules ≡ []) × (fold with_default rows for_serve.top.rules ≡ rows ++ no_flag_row (codes "polled") ∷ [])
 unfolding defaults_fault
-polled_left_out rows none = (
+serve_polled_left_out rows none = (
   simp (or_true, same_both, none) refl,
   simp (same_both, none) (at_none (codes "polled") (more_values DefaultValue (codes "false" ∷ [])) (no_flag_row (codes "polled") ∷ []) rows none),
 )
@@ -389,8 +422,8 @@ serve_takes = record {
   others = serve_each (λ name. (bytes_eq name (codes "polled") ≡ false) × (bytes_eq (codes "polled") name ≡ false)) (refl, refl) (refl, refl) (refl, refl) (refl, refl);
   no_door = (refl, refl);
   again = refl;
-  given = polled_given;
-  left_out = polled_left_out;
+  given = serve_polled_given;
+  left_out = serve_polled_left_out;
   check = λ rows. refl;
 }
 

@@ -68,14 +68,6 @@ abbrev pub plain_explain : Plain → Option ExplainWords
 plain_explain p =
     explain_by (value_given (codes "controller") p.options) (value_given (codes "at") p.options) (value_given (codes "request") p.options) p.doors
 
--- The options of `replay`.
-abbrev pub replay_options : List (List ℕ)
-replay_options = codes "controller" ∷ codes "workers" ∷ []
-
--- What plain words give `replay`.
-abbrev pub plain_replay : Plain → Option ReplayWords
-plain_replay p = replay_by (value_given (codes "controller") p.options) (value_given (codes "workers") p.options) p.doors
-
 -- What stands in plain words of a command with a flag: its options with a value, whether the flag is given between them, and its DOORs.
 pub record Flagged : Type 0 where
   pub before : List Given
@@ -91,6 +83,15 @@ flagged_words flag p =
 -- What they are without the flag.
 abbrev pub without_flag : Flagged → Plain
 without_flag p = record { options = p.before ++ p.behind; doors = p.doors }
+
+-- The options of `replay` that have a value.
+abbrev pub replay_options : List (List ℕ)
+replay_options = codes "controller" ∷ codes "workers" ∷ []
+
+-- What plain words give `replay`.
+abbrev pub plain_replay : Flagged → Option ReplayWords
+plain_replay p =
+    replay_by (value_given (codes "controller") (p.before ++ p.behind)) (value_given (codes "workers") (p.before ++ p.behind)) p.is_given p.doors
 
 -- The options of `generate` that have a value.
 abbrev pub generate_options : List (List ℕ)
@@ -120,7 +121,7 @@ pub record ReadsPlain (words : List (List ℕ)) : Type 0 where
       → command_of words ≡ option_map status (plain_status p)
   pub explain : (p : Plain) → is_plain explain_options p ≡ true → words ≡ codes "explain" ∷ plain_words p
       → command_of words ≡ option_map explain (plain_explain p)
-  pub replay : (p : Plain) → is_plain replay_options p ≡ true → words ≡ codes "replay" ∷ plain_words p
+  pub replay : (p : Flagged) → is_plain replay_options (without_flag p) ≡ true → words ≡ codes "replay" ∷ flagged_words (codes "polled") p
       → command_of words ≡ option_map replay (plain_replay p)
   pub generate : (p : Flagged) → p.doors ≡ [] → is_plain generate_options (without_flag p) ≡ true
       → words ≡ codes "generate" ∷ flagged_words (codes "run") p → command_of words ≡ option_map generate (plain_generate p)

@@ -10,11 +10,11 @@ use Rattle.gw_command.specs.declared.fault.Fault.TheVariants.{Usage, TooManyDoor
 
 -- What is written of the objects: their statuses, what becomes of a request at the door of this number, or what the
 -- connections of a script are served by so many workers. Or a script is written, or run. Or connections are served: by so many workers at each door, by jobs that end
--- after so many accepts, where they do, with the admin endpoint at this socket; the last says whether the connections are polled.
+-- after so many accepts, where they do, with the admin endpoint at this socket. Of a replay and a service the last says whether the connections are polled.
 pub data Task : Type 0 where
   a_status : Task
   an_explanation : ℕ → Request → Task
-  a_replay : ℕ → Task
+  a_replay : ℕ → Bool → Task
   a_generation : GenerateWords → Task
   a_service : ℕ → Option ℕ → Socket → Bool → Task
 
@@ -29,7 +29,7 @@ pub record Setting : Type 0 where
 abbrev pub IsWithin : Task → List Door → Type 0
 IsWithin a_status doors = ⊤
 IsWithin (an_explanation at q) doors = at < length doors
-IsWithin (a_replay workers) doors = (0 < workers) × (workers ≤ most_workers)
+IsWithin (a_replay workers polled) doors = (0 < workers) × (workers ≤ most_workers)
 IsWithin (a_generation words) doors = (0 < words.routes) × (words.routes ≤ most_routes) × (words.requests ≤ most_requests)
 IsWithin (a_service workers conns admin polled) doors = (0 < workers) × (workers * length doors ≤ most_workers)
 
@@ -37,7 +37,7 @@ IsWithin (a_service workers conns admin polled) doors = (0 < workers) × (worker
 abbrev pub IsService : Task → Type 0
 IsService a_status = ⊥
 IsService (an_explanation at q) = ⊥
-IsService (a_replay workers) = ⊥
+IsService (a_replay workers polled) = ⊥
 IsService (a_generation words) = ⊥
 IsService (a_service workers conns admin polled) = ⊤
 
@@ -45,7 +45,7 @@ IsService (a_service workers conns admin polled) = ⊤
 abbrev pub IsGeneration : Task → Type 0
 IsGeneration a_status = ⊥
 IsGeneration (an_explanation at q) = ⊥
-IsGeneration (a_replay workers) = ⊥
+IsGeneration (a_replay workers polled) = ⊥
 IsGeneration (a_generation words) = ⊤
 IsGeneration (a_service workers conns admin polled) = ⊥
 
@@ -73,7 +73,7 @@ StartsBy (Some (status words)) start = start ≡ with_task words.controller word
 StartsBy (Some (explain words)) start =
     (q : Option Request) × IsRequestOf words.request q
     × (start ≡ with_task words.controller words.doors (option_map (an_explanation words.at) q))
-StartsBy (Some (replay words)) start = start ≡ with_task words.controller words.doors (Some (a_replay words.workers))
+StartsBy (Some (replay words)) start = start ≡ with_task words.controller words.doors (Some (a_replay words.workers words.polled))
 StartsBy (Some (generate words)) start = start ≡ with_task default_controller [] (Some (a_generation words))
 StartsBy (Some (serve words)) start = start ≡ with_task words.controller words.doors (Some (a_service words.workers words.conns words.admin words.polled))
 

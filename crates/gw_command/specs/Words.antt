@@ -20,10 +20,11 @@ pub record ExplainWords : Type 0 where
   pub request : List ℕ
   pub doors : List Door
 
--- What `replay` is given: how many workers there are.
+-- What `replay` is given: how many workers there are, and whether its connections are polled.
 pub record ReplayWords : Type 0 where
   pub controller : List ℕ
   pub workers : ℕ
+  pub polled : Bool
   pub doors : List Door
 
 -- What `serve` is given: how many workers each door has, after how many accepts a job ends, where it does, the socket of the admin
@@ -77,11 +78,11 @@ explain_app =
     with_rule (with_rule (with_rule (with_rule (new_app (codes "explain")) (value_rule (codes "controller")))
     (value_rule (codes "at"))) (value_rule (codes "request"))) door_rule
 
--- The words of `replay`: [--controller TEXT] [--workers N] [DOOR]...
+-- The words of `replay`: [--controller TEXT] [--workers N] [--polled] [DOOR]...
 abbrev pub replay_app : App
 replay_app =
-    with_rule (with_rule (with_rule (new_app (codes "replay")) (value_rule (codes "controller")))
-    (value_rule (codes "workers"))) door_rule
+    with_rule (with_rule (with_rule (with_rule (new_app (codes "replay")) (value_rule (codes "controller")))
+    (value_rule (codes "workers"))) (flag_rule (codes "polled"))) door_rule
 
 -- The words of `generate`: --seed N --routes N --requests N [--run]
 abbrev pub generate_app : App
@@ -174,16 +175,22 @@ most_workers = 64
 abbrev pub workers_by : Option (List ℕ) → Option ℕ
 workers_by given = number_below (most_workers + 1) (unwrap_or given (codes "1")) >>= λ n. if n == 0 then None else Some n
 
--- What `replay` is given by the values of its options and the words of its DOORs.
-unfoldable pub replay_by : Option (List ℕ) → Option (List ℕ) → List (List ℕ) → Option ReplayWords
-replay_by controller workers doors = do
+-- A flag that is given has the value `true`.
+abbrev pub is_given : Option (List ℕ) → Bool
+is_given None = false
+is_given (Some value) = bytes_eq value (codes "true")
+
+-- What `replay` is given by the values of its options, by whether its flag is given, and by the words of its DOORs.
+unfoldable pub replay_by : Option (List ℕ) → Option (List ℕ) → Bool → List (List ℕ) → Option ReplayWords
+replay_by controller workers polled doors = do
   workers ← workers_by workers
   doors ← doors_of doors
-  Some (record { controller = controller_by controller; workers = workers; doors = doors })
+  Some (record { controller = controller_by controller; workers = workers; polled = polled; doors = doors })
 
 -- What `replay` is given by what clap found.
 abbrev pub replay_in : List Row → Option ReplayWords
-replay_in rows = replay_by (first_of (codes "controller") rows) (first_of (codes "workers") rows) (doors_in rows)
+replay_in rows =
+    replay_by (first_of (codes "controller") rows) (first_of (codes "workers") rows) (is_given (first_of (codes "polled") rows)) (doors_in rows)
 
 -- What `replay` is given by its words.
 unfoldable pub replay_of : List (List ℕ) → Option ReplayWords
@@ -210,11 +217,6 @@ most_requests = 100000
 -- The number of requests that is given; one must be.
 abbrev pub requests_by : Option (List ℕ) → Option ℕ
 requests_by given = given >>= number_below (most_requests + 1)
-
--- A flag that is given has the value `true`.
-abbrev pub is_given : Option (List ℕ) → Bool
-is_given None = false
-is_given (Some value) = bytes_eq value (codes "true")
 
 -- What `generate` is given by the values of its options, and by whether its flag is given.
 unfoldable pub generate_by : Option (List ℕ) → Option (List ℕ) → Option (List ℕ) → Bool → Option GenerateWords

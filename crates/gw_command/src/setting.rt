@@ -78,7 +78,7 @@ pub fn start(alloc: Global, words: &[String]) -> Result<Setting, Fault>
         }
         Ok(Command::Explain(words)) => explanation(alloc, words),
         Ok(Command::Replay(words)) => {
-            let task = Task::Replay(words.workers);
+            let task = Task::Replay(words.workers, words.polled);
             with_doors(alloc, words.controller, words.doors, task)
         }
         Ok(Command::Generate(words)) => generation(alloc, words),

@@ -9,8 +9,8 @@ pub enum Task {
     Status,
     /// What becomes of a request at the door of this number.
     Explanation(usize, Request),
-    /// What a script's connections are served, by so many workers.
-    Replay(usize),
+    /// What a script's connections are served, by so many workers. The last is whether the connections are polled.
+    Replay(usize, bool),
     /// A script is written, or run.
     Generate(GenerateWords),
     /// The connections of all doors are served, by so many workers each, with jobs that end after so many accepts, or never; the objects

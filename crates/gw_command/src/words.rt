@@ -96,13 +96,15 @@ impl Model for ExplainWords {
     ghost view = { λ s. record { controller = s.controller; at = s.at; request = s.request.items; doors = s.doors.items } };
 }
 
-/// What `replay` is given: `[--controller TEXT] [--workers N] [DOOR]...`.
+/// What `replay` is given: `[--controller TEXT] [--workers N] [--polled] [DOOR]...`.
 #[derive(Drop)]
 pub struct ReplayWords {
     /// The controller of the GatewayClasses that are this program's.
     pub controller: Text,
     /// How many workers there are.
     pub workers: usize,
+    /// Whether its connections are polled.
+    pub polled: bool,
     /// The DOORs, in the order in which they are given.
     pub doors: Vec<Door>,
 }
@@ -112,7 +114,7 @@ impl Model for ReplayWords {
 
     ghost Value = { Plain };
 
-    ghost view = { λ s. record { controller = s.controller; workers = s.workers; doors = s.doors.items } };
+    ghost view = { λ s. record { controller = s.controller; workers = s.workers; polled = s.polled; doors = s.doors.items } };
 }
 
 /// What `generate` is given: `--seed N --routes N --requests N [--run]`.
@@ -270,6 +272,7 @@ fn replay_command<'a>(alloc: Global) -> Result<clap::Command<'a>, AllocError>
     clap::Command::new(alloc, "replay")
         .arg(value(alloc, "controller"))?
         .arg(value(alloc, "workers"))?
+        .arg(flag(alloc, "polled"))?
         .arg(door(alloc))
 }
 
@@ -382,11 +385,13 @@ fn replay_words(alloc: Global, matches: &ArgMatches<'_>) -> Result<ReplayWords, 
     ensures few { IfOk result (λ s. s.workers ≤ words_of.most_workers) }
 {
     let workers = workers(matches)?;
+    let polled = is_given(matches, "polled");
     let doors = doors(alloc, matches)?;
     let controller = controller(alloc, matches)?;
     Ok(ReplayWords {
         controller,
         workers,
+        polled,
         doors,
     })
 }

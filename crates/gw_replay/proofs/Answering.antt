@@ -1,5 +1,5 @@
 -- What backends in memory answer, by what they were told.
-use Rattle.std.proofs.Common.{◌≡◌, ◌∙◌, ℕ, ◌+◌, ◌<◌, Bool, true, false, List, [], ◌∷◌, ◌++◌, length, codes, take, drop, if◌then◌else◌, Option, Some, None, Result, Ok, Err, refl, sym, ap, subst, arith, length-append, append-nil, inl, inr}
+use Rattle.std.proofs.Common.{◌≡◌, ◌∙◌, ℕ, ◌<◌, Bool, true, false, List, [], ◌∷◌, ◌++◌, length, codes, drop, if◌then◌else◌, Option, Some, None, Ok, Err, refl, sym, ap, subst, arith, length-append, append-nil, inl, inr}
 use Rattle.std.specs.Prelude.{⊤}
 use Rattle.std.specs.List.{flat_map}
 use Rattle.std.specs.Option.{option_map_or}
@@ -8,7 +8,7 @@ use Rattle.gw_answers.specs.declared.books.Books.{Books}
 use Rattle.gw_answers.specs.model.Decisions.{Action, Chosen, by_backend, by_endpoint, by_state, by_verdict, decision_of, forwards, picked_backend, redirected, replied, replies, routed}
 use Rattle.gw_answers.specs.model.Messages.{forward_of, is_head}
 use Rattle.gw_decide.specs.model.Verdicts.{Verdict, choose, not_found, nothing, redirect, redirect_in, verdict_of}
-use Rattle.gw_exchange.specs.Exchanged.{ComesTo, Ends, IsRefused}
+use Rattle.gw_exchange.specs.Exchanged.{ComesTo, IsRefused}
 use Rattle.gw_exchange.proofs.Limits.{nothing_yet}
 use Rattle.gw_frames.specs.model.Requests.{Request}
 use Rattle.gw_link.specs.Exchanges.{Exchange}
@@ -17,7 +17,6 @@ use Rattle.gw_link.specs.declared.order.Order.{Order}
 use Rattle.gw_link.specs.declared.order.UpstreamCall.{UpstreamCall}
 use Rattle.gw_link.specs.declared.order.UpstreamCall.TheVariants as calls
 use Rattle.gw_link.proofs.ScriptLemmas.{AreScripted, IsScripted}
-use Rattle.gw_match.specs.model.Choice.{listener_at}
 use Rattle.gw_message_laws.proofs.ResponseLaws.{outcome_unique}
 use Rattle.gw_replies.specs.declared.fault.BackendFault.{BackendFault}
 use Rattle.gw_replies.specs.declared.fault.BackendFault.TheVariants as faults

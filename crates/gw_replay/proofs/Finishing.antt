@@ -1,16 +1,13 @@
 -- What is written of a script, at its end or where it is given up.
-use Rattle.std.proofs.Common.{◌≡◌, ◌∙◌, ◌<◌, ◌++◌, ℕ, ℤ, List, [], ◌∷◌, length, nat_lt, inl, inr, Option, refl, sym, subst, ap, string_bytes}
+use Rattle.std.proofs.Common.{◌≡◌, ◌∙◌, ◌<◌, ◌++◌, ℕ, ℤ, List, [], length, nat_lt, inl, inr, Option, refl, sym, subst, ap, string_bytes}
 use Rattle.gw_json.specs.Lines.{line_of}
-use Rattle.gw_link.specs.Moments.{TicksInTurn}
 use Rattle.gw_script.specs.Scripts.{step_of}
 use Rattle.gw_store.specs.Lines.{lines_of}
-use Rattle.gw_store.specs.declared.event.Entry.{Entry}
 use Rattle.gw_text.specs.model.Doors.{Door}
-use Rattle.gw_worker.specs.model.Workers.{Worker}
 use Rattle.gw_replay.specs.Lines.{ahead_data, place_data}
 use Rattle.gw_replay.specs.Outputs.{IsFrontOf, IsReplayed}
-use Rattle.gw_replay.specs.Replays.{Client as Plain, Runs, SendsOn, Site, State, beginning, totals_text}
-use Rattle.gw_replay.specs.States.{HaltedAt, IsGivenUp, Keeps, RunsTo, StoppedIn, StopsIn, site_of}
+use Rattle.gw_replay.specs.Replays.{Runs, SendsOn, Site, State, beginning, totals_text}
+use Rattle.gw_replay.specs.States.{IsGivenUp, Keeps, RunsTo, StoppedIn, StopsIn, site_of}
 use Rattle.gw_replay.specs.declared.ending.Ending.{Ending}
 use Rattle.gw_replay.specs.declared.ending.Ending.TheVariants.{Done, Place, Ahead}
 use Rattle.gw_replay.specs.declared.replay.Replay.{Replay}

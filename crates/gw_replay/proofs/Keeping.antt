@@ -3,13 +3,13 @@ use Rattle.std.proofs.Common.{◌≡◌, ◌∙◌, ℕ, zero, suc, ◌+◌, ◌
 use Rattle.std.specs.Prelude.{⊤}
 use Rattle.std.specs.Map.{update}
 use Rattle.std.specs.BTreeMap.{BTreeMap, IsEmpty, get_by_text}
-use Rattle.std.proofs.lemmas.List.{length-map, length-set}
+use Rattle.std.proofs.lemmas.List.{length-set}
 use Rattle.gw_answers.specs.declared.books.Books.{Books}
 use Rattle.gw_hub.specs.Control.{Control}
 use Rattle.gw_link.specs.Upstreams.{UpstreamState}
 use Rattle.gw_link.specs.declared.order.Order.{Order}
 use Rattle.gw_lists.proofs.Beginnings.{begins_with-self}
-use Rattle.gw_snap.specs.Lists.{BeginsWith, Book, Seen, copies, fresh}
+use Rattle.gw_snap.specs.Lists.{Book, Seen, copies, fresh}
 use Rattle.gw_store.specs.declared.event.Entry.{Entry}
 use Rattle.gw_text.specs.model.Doors.{Door}
 use Rattle.gw_worker.specs.model.Workers.{Worker}

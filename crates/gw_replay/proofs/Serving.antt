@@ -26,10 +26,13 @@ use Rattle.gw_worker.specs.declared.conn.Conn.{Conn}
 use Rattle.gw_worker.specs.declared.serve.Flow.{Flow}
 use Rattle.gw_worker.specs.declared.serve.Flow.TheVariants as flows
 use Rattle.gw_worker.specs.model.Workers.{Worker}
-use Rattle.gw_worker.specs.model.Sessions.{Handled, Part, Place, a_close, a_cut, a_refused, a_request, a_wait, books_at, rows_of, step_of}
+use Rattle.gw_worker.specs.model.Sessions.{Handled, Part, Place, a_close, a_cut, a_refused, a_request, a_wait, rows_of, step_of}
 use Rattle.gw_replay.specs.Lines.{end_text, rows_text, written_text}
 use Rattle.gw_replay.specs.Replays.{AreDecidedBy, Client as Plain, Serves, Site, State, place_at}
-use Rattle.gw_replay.specs.States.{AreBackends, HasSeen, IsClient, Keeps, ending_of, picks_of, site_of}
+use Rattle.gw_replay.specs.States.{AreBackends, HasSeen, IsClient, Keeps, ending_of, site_of}
+use Rattle.gw_conns.specs.Standing.{IsServedBy, conn_of}
+use Rattle.gw_conns.specs.declared.connection.Connection.{Connection}
+use Rattle.gw_conns.proofs.Standing.{serving_of, stands_for}
 use Rattle.gw_replay.specs.declared.replay.Client.{Client}
 use Rattle.gw_replay.specs.declared.replay.Replay.{Replay}
 use Rattle.gw_replay.specs.Pairs.{paired_text}
@@ -123,15 +126,16 @@ is_at site door seen book w has = record {
 }
 
 pub door_there : {R : Type 0} (r : Replay R) (s : State) (c : Client) (plain : Plain) (w : Worker) → Keeps r s → IsClient (site_of r) (length s.workers) c plain → w ≡ get_or r.workers.items c.worker w
-    → c.conn.door < length w.pass.fixed.0
+    → (conn_of c.conn).door < length w.pass.fixed.0
 door_there r s c plain w k client at =
-    subst (λ (n : ℕ). n < length w.pass.fixed.0) (sym client.stands.door)
+    subst (λ (n : ℕ). n < length w.pass.fixed.0) (sym (stands_for c.conn (place_at (site_of r) plain.door) plain.bytes plain.parts plain.text client.ready client.stands).door)
     (subst (λ (doors : List Door). plain.door < length doors) (sym (ap (λ (f : List Door × List ℕ). f.0) (worker_seen r s c plain w k client at).of.fixed_is)) client.door)
 
 -- the rows so far
-pub rows_before : (site : Site) (workers : ℕ) (c : Client) (plain : Plain) → IsClient site workers c plain → c.conn.rows ≡ rows_of (place_at site plain.door) plain.parts
+pub rows_before : (site : Site) (workers : ℕ) (c : Client) (plain : Plain) → IsClient site workers c plain → (conn_of c.conn).rows ≡ rows_of (place_at site plain.door) plain.parts
 rows_before site workers c plain client =
-    (settled c.conn.stage (place_at site plain.door) c.conn.rows plain.parts plain.text (calm c.conn.stage client.serving.reading) client.stands.serves).rows_are
+    (settled (conn_of c.conn).stage (place_at site plain.door) (conn_of c.conn).rows plain.parts plain.text (calm (conn_of c.conn).stage (serving_of c.conn client.ready).reading)
+    (stands_for c.conn (place_at site plain.door) plain.bytes plain.parts plain.text client.ready client.stands).serves).rows_are
 
 -- a piece was taken
 pub record Taken (site : Site) (book : Book) (piece : List ℕ) (s : State) (c : Plain) (before after : Worker) (conn : Conn) (flow : Flow) (told0 told : List ℕ) (backends0 backends : UpstreamState) : Type 0 where
@@ -224,9 +228,6 @@ module _ {site : Site} {book : Book} {piece : List ℕ} {s : State} {c : Plain} 
   pub whole_so : AreWhole p t.more
   whole_so = whole_behind p c.parts t.more served.whole
 
-  pub stands_so : StandsFor conn p client_after.bytes client_after.parts client_after.text
-  stands_so = t.stands
-
   pub has_so : HasSeen s.published (site.doors, site.controller) book after
   has_so = record {
     seen = begins_with-trans s.published before.pass.seen after.pass.seen v.seen.seen (decided_later p t.more before after t.decided);
@@ -254,7 +255,7 @@ same_worker a b seen fixed book refused ahead books =
     ∙ ap (λ (k : Books). record { pass = a.pass; books = k }) books
 
 -- what was served by it
-pub served_as : {refuses : UpstreamCall → Socket → Type 0} {p : Place} {before a b : Worker} {conn : Conn} {bytes : List ℕ} {over : Bool} {parts : List Part} {text : List ℕ} {o o' : Outside} {flow : Flow} → b ≡ a
-    → Served refuses p before a conn bytes over parts text o o' flow → Served refuses p before b conn bytes over parts text o o' flow
+pub served_as : {refuses : UpstreamCall → Socket → Type 0} {p : Place} {before a b : Worker} {conn : Connection} {bytes : List ℕ} {over : Bool} {parts : List Part} {text : List ℕ} {o o' : Outside} {flow : Flow} → b ≡ a
+    → IsServedBy refuses p before a conn bytes over parts text o o' flow → IsServedBy refuses p before b conn bytes over parts text o o' flow
 served_as {refuses} {p} {before} {a} {b} {conn} {bytes} {over} {parts} {text} {o} {o'} {flow} same served =
-    subst (λ (w : Worker). Served refuses p before w conn bytes over parts text o o' flow) (sym same) served
+    subst (λ (w : Worker). IsServedBy refuses p before w conn bytes over parts text o o' flow) (sym same) served

@@ -6,7 +6,7 @@ use Rattle.std.specs.Bool.{Decides}
 use Rattle.std.specs.BTreeMap.{get_by_text}
 use Rattle.std.specs.Map.{update}
 use Rattle.gw_frames.specs.declared.ended.Ended.{Ended}
-use Rattle.gw_hub.specs.Control.{Comes, Control}
+use Rattle.gw_hub.specs.Control.{Comes}
 use Rattle.gw_resolve.specs.declared.outcome.Outcome.{Outcome}
 use Rattle.gw_resolve.specs.declared.outcome.Outcome.TheVariants.{Accepted, Skipped}
 use Rattle.gw_link.specs.Moments.{Ticks}

@@ -7,7 +7,7 @@ use Rattle.gw_json.specs.declared.refusal.Refusal.{Refusal}
 use Rattle.gw_match.specs.model.Telling.{change_of, world_after}
 use Rattle.gw_store.specs.Events.{Read, a_change as is_change, is_skipped, answer}
 use Rattle.gw_store.specs.declared.event.Entry.{Entry}
-use Rattle.gw_worker.specs.model.Sessions.{Place, rows_after}
+use Rattle.gw_worker.specs.model.Sessions.{rows_after}
 use Rattle.gw_replay.specs.Replays.{Site, State, place_at}
 
 -- A line comes, at a moment; all changes are published; a worker learns of a publication of so many changes; a worker reads; and a request

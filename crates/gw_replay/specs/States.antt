@@ -14,13 +14,13 @@ use Rattle.gw_snap.specs.Lists.{BeginsWith, Book, Seen}
 use Rattle.gw_store.specs.declared.event.Entry.{Entry}
 use Rattle.gw_text.specs.model.Addresses.{Socket}
 use Rattle.gw_text.specs.model.Doors.{Door}
-use Rattle.gw_worker.specs.Conns.{IsServing, StandsFor}
 use Rattle.gw_worker.specs.declared.serve.Flow.{Flow}
 use Rattle.gw_worker.specs.declared.serve.Flow.TheVariants as flows
 use Rattle.gw_worker.specs.model.Workers.{Worker}
 use Rattle.gw_replay.specs.Replays.{Client as Plain, IsAnswer, Runs, SendsOn, Serves, Site, State, no_picks, place_at, with_order}
 use Rattle.gw_json.specs.Lines.{line_of}
 use Rattle.gw_replay.specs.Lines.{ahead_data, place_data}
+use Rattle.gw_conns.specs.Standing.{IsReady, Stands}
 use Rattle.gw_replay.specs.declared.ending.Ending.{Ending}
 use Rattle.gw_replay.specs.declared.ending.Ending.TheVariants.{Done, Place, Ahead}
 use Rattle.gw_replay.specs.declared.replay.Client.{Client}
@@ -45,8 +45,8 @@ pub record IsClient (site : Site) (workers : ℕ) (c : Client) (plain : Plain) :
   pub worker : c.worker ≡ plain.worker
   pub within : c.worker < workers
   pub door : plain.door < length site.doors
-  pub stands : StandsFor c.conn (place_at site plain.door) plain.bytes plain.parts plain.text
-  pub serving : IsServing c.conn
+  pub stands : Stands c.conn (place_at site plain.door) plain.bytes plain.parts plain.text
+  pub ready : IsReady c.conn
 
 -- The open connection of a name, or none.
 abbrev pub Matches : Site → ℕ → Option Client → Option Plain → Type 0

@@ -4,11 +4,11 @@ ghost use Rattle.std.specs.BTreeMap.{get_by_text};
 ghost use Rattle.std.specs.Map.{update};
 ghost use Rattle.gw_link.specs.Upstreams.{Becomes, Refuses};
 ghost use Rattle.gw_snap.specs.Lists.{BeginsWith};
-ghost use Rattle.gw_worker.specs.Conns.{IsServing, StandsFor};
-ghost use Rattle.gw_worker.specs.Flows.{Served, outside};
+ghost use Rattle.gw_worker.specs.Flows.{outside};
 ghost use Rattle.gw_worker.specs.Workers.{IsAt};
 ghost use Rattle.gw_worker.specs.model.Sessions.{Part, Place};
 ghost use Rattle.gw_replay.specs.Replays.{Begins, Sends};
+ghost use Rattle.gw_conns.specs.Standing.{IsReady, IsServedBy, Stands, conn_of};
 ghost use Rattle.gw_replay.specs.States.{Does, Halted, HaltsAt, HasClient, IsCause, IsKept, IsOpen, ServedBy, Unless, number_of, site_of};
 
 use crate::print::{Said, push_end, push_written};
@@ -16,13 +16,15 @@ use crate::replay::{Client, Replay};
 use crate::rows::push_rows;
 use crate::stop::Stop;
 use gw_answers::ServedRow;
+use gw_conns::Connection;
 use gw_hub::Controller;
-use gw_link::{MemLink, MemSink, MemSource, MemUpstream};
+use gw_link::MemUpstream;
 use gw_script::StepRefusal;
 use gw_snap::OpenFault;
 use gw_text::NoMemory;
-use gw_worker::{Conn, ConnFault, Flow, Worker};
-use std::alloc::Global;
+use gw_worker::{Flow, Worker};
+use std::alloc::AllocGlobal;
+use std::random::RandomSource;
 use std::sync::Wait;
 
 impl<R: Wait + Drop> Replay<R> {
@@ -44,7 +46,7 @@ impl<R: Wait + Drop> Replay<R> {
         if self.clients.contains_key(name) {
             return self.refuse_line(number, StepRefusal::NotStep);
         }
-        let conn = Conn::new(self.alloc, door);
+        let conn = Connection::new(self.alloc, door, self.polled);
         self.keep(name, Client { conn, worker })
     }
 
@@ -59,7 +61,13 @@ impl<R: Wait + Drop> Replay<R> {
     }
 
     /// The client of this name sends a piece, or has sent all where it is empty.
-    pub(crate) fn send(&mut self, number: u64, name: &str, piece: &[u8]) -> Result<(), Stop>
+    pub(crate) fn send<W: Wait + RandomSource + AllocGlobal>(
+        &mut self,
+        rt: &W,
+        number: u64,
+        name: &str,
+        piece: &[u8],
+    ) -> Result<(), Stop>
         requires kept { IsKept self.old }
         requires few { self.old.refused < 2 ^ 63 }
         ensures does { OnOk result (Does (λ s s' text. Sends (site_of self.old) number name.now piece.now (s.clients name.now) s s' text) self.old self.new) }
@@ -71,14 +79,20 @@ impl<R: Wait + Drop> Replay<R> {
             return Ok(self.refuse_line(number, StepRefusal::NotStep)?);
         };
         let said = Said { name, line: number };
-        match self.serve(said, &mut client, piece)? {
+        match self.serve(rt, said, &mut client, piece)? {
             Flow::More => Ok(self.keep(name, client)?),
             Flow::Ended(_) => Ok(()),
         }
     }
 
     // Serves a connection by a piece, and writes what came of it.
-    fn serve(&mut self, said: Said<'_>, client: &mut Client, piece: &[u8]) -> Result<Flow, Stop>
+    fn serve<W: Wait + RandomSource + AllocGlobal>(
+        &mut self,
+        rt: &W,
+        said: Said<'_>,
+        client: &mut Client,
+        piece: &[u8],
+    ) -> Result<Flow, Stop>
         requires { HasClient self.old client.old }
         ensures served { IfOk result (λ flow. ServedBy said.entry.line said.entry.name.now piece.now client.old client.new flow self.old self.new) }
         ensures stops { IfErr result (λ stop. Unless stop (Halted stop self.old self.new)) }
@@ -88,52 +102,46 @@ impl<R: Wait + Drop> Replay<R> {
     {
         let rows = client.conn.served().as_slice().len();
         let exchanges = self.backends.exchanges().len();
-        let mut link = no_bytes(self.alloc);
+        let mut wrote = Vec::new(self.alloc);
         let worker = &mut self.workers[client.worker];
         let flow = take_published(
+            rt,
             &self.controller,
             client,
             worker,
             piece,
-            &mut link,
+            &mut wrote,
             &mut self.backends,
         )?;
         let (_, rows) = client.conn.served().as_slice().split_at(rows);
         let (_, exchanges) = self.backends.exchanges().split_at(exchanges);
         push_rows(self.alloc, &mut self.text, said, rows, exchanges)?;
         push_statuses(&mut self.statuses, rows)?;
-        push_written(self.alloc, &mut self.text, said, link.written())?;
+        push_written(self.alloc, &mut self.text, said, wrote.as_slice())?;
         push_end(self.alloc, &mut self.text, said, flow)?;
         Ok(flow)
     }
 }
 
-// A link over which nothing comes, and nothing was written.
-fn no_bytes(alloc: Global) -> MemLink
-    ensures written { result.sink.written ≡ [] }
-{
-    let source = MemSource::new(Vec::new(alloc), Vec::new(alloc));
-    let sink = MemSink::new(alloc, Vec::new(alloc));
-    MemLink::new(source, sink, Vec::new(alloc))
-}
-
 // What comes of a piece, where the worker has seen no more than is published.
-fn take_published<R: Wait + Drop>(
+fn take_published<W: Wait + RandomSource + AllocGlobal, R: Wait + Drop>(
+    rt: &W,
     controller: &Controller<R>,
     client: &mut Client,
     worker: &mut Worker,
     piece: &[u8],
-    link: &mut MemLink,
+    wrote: &mut Vec<u8>,
     backends: &mut MemUpstream,
 ) -> Result<Flow, Stop>
-    requires door { client.old.conn.door < length worker.old.pass.fixed.0 }
-    requires serving { IsServing client.old.conn }
+    requires door { (conn_of client.old.conn).door < length worker.old.pass.fixed.0 }
+    requires ready { IsReady client.old.conn }
+    requires none { wrote.old.items ≡ [] }
     requires book { worker.old.pass.book ≡ controller.now.book }
-    ensures served { IfOk result (λ flow. (p : Place) (bytes : List ℕ) (parts : List Part) (text : List ℕ) → IsAt worker.old p → StandsFor client.old.conn p bytes parts text
-        → Served (Refuses backends.old backends.new) p worker.old worker.new client.new.conn (bytes ++ piece.now) (length piece.now == 0) parts text
-        (outside (Some link.old.sink.written) (Some backends.old.exchanges) backends.old.calls.faults)
-        (outside (Some link.new.sink.written) (Some backends.new.exchanges) backends.new.calls.faults) flow) }
-    ensures serving { result ≡ Ok Flow.More → IsServing client.new.conn }
+    ensures served { IfOk result (λ flow. (p : Place) (bytes : List ℕ) (parts : List Part) (text : List ℕ) → IsAt worker.old p → Stands client.old.conn p bytes parts text
+        → IsServedBy (Refuses backends.old backends.new) p worker.old worker.new client.new.conn (bytes ++ piece.now) (length piece.now == 0) parts text
+        (outside (Some []) (Some backends.old.exchanges) backends.old.calls.faults)
+        (outside (Some wrote.new.items) (Some backends.new.exchanges) backends.new.calls.faults) flow) }
+    ensures ready { result ≡ Ok Flow.More → IsReady client.new.conn }
     ensures becomes { OnOk result (Becomes backends.old backends.new) }
     ensures starved { OnOk result (backends.new.starved ≡ backends.old.starved) }
     ensures seen { OnOk result (length worker.new.pass.seen ≤ length controller.now.published) }
@@ -143,7 +151,7 @@ fn take_published<R: Wait + Drop>(
     ensures book { worker.new.pass.book ≡ worker.old.pass.book }
     ensures worker { client.new.worker ≡ client.old.worker }
 {
-    let flow = match take(&mut client.conn, worker, piece, link, backends) {
+    let flow = match client.conn.take(rt, worker, piece, wrote, backends) {
         Ok(flow) => flow,
         Err(OpenFault::Place) => return Err(Stop::Place(client.worker)),
         Err(OpenFault::NoMemory) => return Err(Stop::NoMemory),
@@ -152,36 +160,6 @@ fn take_published<R: Wait + Drop>(
         return Err(Stop::Ahead(client.worker));
     }
     Ok(flow)
-}
-
-// What comes of a piece. A call that failed for want of memory says nothing of a backend.
-fn take(
-    conn: &mut Conn,
-    worker: &mut Worker,
-    piece: &[u8],
-    link: &mut MemLink,
-    backends: &mut MemUpstream,
-) -> Result<Flow, OpenFault>
-    requires door { conn.old.door < length worker.old.pass.fixed.0 }
-    requires serving { IsServing conn.old }
-    ensures served { IfOk result (λ flow. (p : Place) (bytes : List ℕ) (parts : List Part) (text : List ℕ) → IsAt worker.old p → StandsFor conn.old p bytes parts text
-        → Served (Refuses backends.old backends.new) p worker.old worker.new conn.new (bytes ++ piece.now) (length piece.now == 0) parts text
-        (outside (Some link.old.sink.written) (Some backends.old.exchanges) backends.old.calls.faults)
-        (outside (Some link.new.sink.written) (Some backends.new.exchanges) backends.new.calls.faults) flow) }
-    ensures serving { result ≡ Ok Flow.More → IsServing conn.new }
-    ensures becomes { Becomes backends.old backends.new }
-    ensures starved { OnOk result (backends.new.starved ≡ backends.old.starved) }
-    ensures refused { result ≡ Err OpenFault.Place → 0 < worker.new.pass.refused }
-    ensures later { BeginsWith worker.old.pass.seen worker.new.pass.seen }
-    ensures fixed { worker.new.pass.fixed ≡ worker.old.pass.fixed }
-    ensures book { worker.new.pass.book ≡ worker.old.pass.book }
-{
-    let starved = backends.starved();
-    match conn.take(worker, piece, link, backends) {
-        Ok(flow) if link.starved() == 0 && backends.starved() == starved => Ok(flow),
-        Err(ConnFault::Place) => Err(OpenFault::Place),
-        _ => Err(OpenFault::NoMemory),
-    }
 }
 
 fn push_statuses(statuses: &mut Vec<u16>, rows: &[ServedRow]) -> Result<(), NoMemory>

@@ -14,11 +14,13 @@ use gw_link::{Clock, MOST_INPUT, Order};
 use gw_script::{Step, StepRefusal, read_step};
 use gw_store::{first_line, is_blank};
 use gw_text::NoMemory;
+use std::alloc::AllocGlobal;
+use std::random::RandomSource;
 use std::sync::Wait;
 
 impl<R: Wait + Drop> Replay<R> {
     /// Does what the lines of an input say, in their order.
-    pub(crate) fn lines<W: Wait, C: Clock>(
+    pub(crate) fn lines<W: Wait + RandomSource + AllocGlobal, C: Clock>(
         &mut self,
         rt: &W,
         input: &[u8],
@@ -41,7 +43,7 @@ impl<R: Wait + Drop> Replay<R> {
         Ok(())
     }
 
-    fn line<W: Wait, C: Clock>(
+    fn line<W: Wait + RandomSource + AllocGlobal, C: Clock>(
         &mut self,
         rt: &W,
         number: u64,
@@ -66,7 +68,7 @@ impl<R: Wait + Drop> Replay<R> {
         }
     }
 
-    fn step<W: Wait, C: Clock>(
+    fn step<W: Wait + RandomSource + AllocGlobal, C: Clock>(
         &mut self,
         rt: &W,
         number: u64,
@@ -86,8 +88,8 @@ impl<R: Wait + Drop> Replay<R> {
             Step::Event(event) => Ok(self.event(number, event, clock.now())?),
             Step::Publish => Ok(self.publish(rt, number)?),
             Step::Open { name, worker, door } => Ok(self.open(number, name, worker, door)?),
-            Step::Send { name, bytes } => self.send(number, name, bytes.as_slice()),
-            Step::End { name } => self.send(number, name, &[]),
+            Step::Send { name, bytes } => self.send(rt, number, name, bytes.as_slice()),
+            Step::End { name } => self.send(rt, number, name, &[]),
             Step::Answer { socket, text, fill } => Ok(self.answer(socket, text, fill)?),
             Step::Fail { socket, call } => Ok(self.order(Order::Fails(socket, call))?),
         }

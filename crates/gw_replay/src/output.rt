@@ -16,17 +16,19 @@ use gw_link::{Clock, MOST_INPUT};
 use gw_snap::{OpenFault, SnapFaults};
 use gw_text::{Doors, NoMemory, Text};
 use gw_worker::Worker;
-use std::alloc::Global;
+use std::alloc::{AllocGlobal, Global};
+use std::random::RandomSource;
 use std::sync::Wait;
 
-/// What a script does, line by line, where so many workers serve its connections at the doors. The clock is asked once before each event.
+/// What a script does, line by line, where so many workers serve its connections at the doors, by calls or by polling each. The clock is asked once before each event.
 /// A script is given up where there is no place to read from, and where a worker has seen more than is published.
-pub fn replay_output<R: Wait, C: Clock>(
+pub fn replay_output<R: Wait + RandomSource + AllocGlobal, C: Clock>(
     rt: &R,
     alloc: Global,
     doors: Doors,
     controller: Text,
     workers: usize,
+    polled: bool,
     input: &[u8],
     clock: &mut C,
     snap: &mut SnapFaults,
@@ -39,7 +41,7 @@ pub fn replay_output<R: Wait, C: Clock>(
     ensures places { snap.old.places ≤ snap.new.places }
     ensures ahead { snap.old.ahead ≤ snap.new.ahead }
 {
-    let mut replay = match Replay::new(alloc, rt, snap, doors, controller, workers) {
+    let mut replay = match Replay::new(alloc, rt, snap, doors, controller, workers, polled) {
         Ok(replay) => replay,
         Err(OpenFault::Place) => {
             return Ok(Replayed {

@@ -5,12 +5,13 @@ ghost use Rattle.gw_replay.specs.Replays.{beginning};
 ghost use Rattle.gw_replay.specs.States.{Keeps, site_of, worker_over};
 
 use crate::ending::{Ending, Replayed};
+use gw_conns::Connection;
 use gw_hub::Controller;
 use gw_link::MemUpstream;
 use gw_match::Tables;
 use gw_snap::{OpenFault, Passes, SnapFaults};
 use gw_text::{Doors, NoMemory, Text};
-use gw_worker::{Conn, Worker};
+use gw_worker::Worker;
 use std::alloc::Global;
 use std::collections::BTreeMap;
 use std::sync::Wait;
@@ -18,7 +19,7 @@ use std::sync::Wait;
 /// An open connection, and the number of its worker.
 #[derive(Drop)]
 pub(crate) struct Client {
-    pub(crate) conn: Conn,
+    pub(crate) conn: Connection,
     pub(crate) worker: usize,
 }
 
@@ -27,6 +28,8 @@ pub(crate) struct Replay<R: Wait + Drop> {
     pub(crate) alloc: Global,
     pub(crate) controller: Controller<R>,
     pub(crate) workers: Vec<Worker>,
+    /// Whether connections are polled.
+    pub(crate) polled: bool,
     /// The open connections by their names.
     pub(crate) clients: BTreeMap<String, Client>,
     pub(crate) backends: MemUpstream,
@@ -45,6 +48,7 @@ impl<R: Wait + Drop> Drop for Replay<R> {
             alloc: _,
             controller: _,
             workers: _,
+            polled: _,
             clients: _,
             backends: _,
             statuses: _,
@@ -64,6 +68,7 @@ impl<R: Wait + Drop> Replay<R> {
         doors: Doors,
         controller: Text,
         workers: usize,
+        polled: bool,
     ) -> Result<Replay<R>, OpenFault>
         requires some { 0 < workers }
         requires few { workers < 2 ^ 32 }
@@ -84,6 +89,7 @@ impl<R: Wait + Drop> Replay<R> {
             alloc,
             controller,
             workers,
+            polled,
             clients: BTreeMap::new(alloc),
             backends: MemUpstream::new(alloc, Vec::new(alloc)),
             statuses: Vec::new(alloc),
@@ -102,6 +108,7 @@ impl<R: Wait + Drop> Replay<R> {
             alloc: _,
             controller: _,
             workers: _,
+            polled: _,
             clients: _,
             backends: _,
             statuses: _,

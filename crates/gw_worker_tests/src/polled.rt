@@ -1,9 +1,10 @@
 //! A connection that is polled, whatever isn't ready before which call and whichever call fails, comes to what a blocking one comes to.
-ghost use Rattle.std.specs.Prelude.{◌≡◌, ◌<◌, length, IfOk, IsSomeAnd};
+ghost use Rattle.std.specs.Prelude.{◌≡◌, ◌<◌, length, IsSomeAnd};
 ghost use Rattle.gw_poll.specs.Courses.{CanGoOn};
 
 use super::failing::{CALLS, NONE, READS, SERVED, TWO, WRITES};
 use super::server::{Server, shown};
+use futures::executor::block_on;
 use futures::task::Poll;
 use futures::test::MockTask;
 use gw_link::{MemSink, MemUpstream};
@@ -15,6 +16,8 @@ use std::alloc::{AllocGlobal, Global};
 use std::random::RandomSource;
 use std::sync::Wait;
 use std::test::*;
+
+const ONE_SERVED: &str = r"200 Closed|HTTP/1.1 200 OK\r\ncontent-length: 13\r\n\r\n10.0.0.1:8080";
 
 /// The numbers of the reads, of the writes and of the calls of the backend that fail, or before which it isn't ready.
 pub(crate) type Calls = [u64; 3];
@@ -45,15 +48,13 @@ pub(crate) fn upstream_of(
 fn alone_of(
     alloc: Global,
     worker: Worker,
-    fails: Calls,
-    marks: Calls,
-) -> Result<Alone<MemPollLink, MemPollUpstream>, NoMemory>
+    link: MemPollLink,
+    up: MemPollUpstream,
+) -> Alone<MemPollLink, MemPollUpstream>
     requires { 0 < length worker.pass.fixed.0 }
-    ensures { IfOk result (λ alone. IsSomeAnd alone.both (λ both. (both.1.course.conn.door < length both.0.pass.fixed.0) × CanGoOn both.1.course both.1.up.up.at)) }
+    ensures { IsSomeAnd result.both (λ both. (both.1.course.conn.door < length both.0.pass.fixed.0) × CanGoOn both.1.course both.1.up.up.at) }
 {
-    let link = link_of(alloc, fails, marks)?;
-    let up = upstream_of(alloc, fails, marks)?;
-    Ok(Alone::new(worker, ConnFuture::new(alloc, 0, link, up)))
+    Alone::new(worker, ConnFuture::new(alloc, 0, link, up))
 }
 
 // What it comes to where each mark wakes the task at once.
@@ -86,7 +87,9 @@ fn served<R: Wait + RandomSource + AllocGlobal>(
         worker,
         other,
     } = Server::new(alloc, rt, rt)?;
-    let alone = alone_of(alloc, worker, fails, marks)?;
+    let link = link_of(alloc, fails, marks)?;
+    let up = upstream_of(alloc, fails, marks)?;
+    let alone = alone_of(alloc, worker, link, up);
     let text = match finished(&MockTask::new(rt)?, alone) {
         Some(finished) => {
             let Finished {
@@ -129,5 +132,52 @@ fn each_call_waits_and_then_fails(rt: HostRuntime) -> Result<(), Fail> {
         let found = served(&rt, calls, calls)?;
         assert!(rt; found.as_str() == *wanted, "call {number}: {found}");
     }
+    Ok(())
+}
+
+// A link to which a request comes byte by byte, before each of which it isn't ready once, and then its end.
+fn link_by_bytes(alloc: Global) -> Result<MemPollLink, NoMemory> {
+    let sink = MemSink::new(alloc, Vec::new(alloc));
+    let mut link = MemPollLink::new(alloc, Vec::new(alloc), sink);
+    let mut marks = Vec::new(alloc);
+    for (at, piece) in TWO[..28].chunks(1).enumerate() {
+        link.push(piece)?;
+        marks.push(at as u64)?;
+    }
+    link.push(&[])?;
+    Ok(link.with_marks(marks, Vec::new(alloc)))
+}
+
+// How many polls of its reads weren't ready where its end is waited for, and what came of it.
+fn waited_for<R: Wait + RandomSource + AllocGlobal>(rt: &R) -> Result<(u64, String), Fail> {
+    let alloc = rt.alloc();
+    let Server {
+        controller,
+        worker,
+        other,
+    } = Server::new(alloc, rt, rt)?;
+    let link = link_by_bytes(alloc)?;
+    let up = upstream_of(alloc, [NONE, NONE, NONE], [NONE, NONE, NONE])?;
+    let Ok(finished) = block_on(rt, alone_of(alloc, worker, link, up)) else {
+        return Err(Fail::from("there is memory for a task"));
+    };
+    let Finished {
+        worker: _,
+        conn,
+        result,
+    } = finished;
+    let (rows, link, _) = conn.into_parts();
+    let text = shown(alloc, rows.as_slice(), result, link.written())?;
+    drop((controller, other));
+    Ok((link.read_waits(), text))
+}
+
+#[test]
+fn a_request_that_comes_byte_by_byte_is_waited_for(rt: HostRuntime) -> Result<(), Fail> {
+    let (waits, found) = waited_for(&rt)?;
+    assert!(rt;
+        waits == 28 && found.as_str() == ONE_SERVED,
+        "{waits} waits: {found}"
+    );
     Ok(())
 }

@@ -1,5 +1,5 @@
 -- A worker that learns.
-use Rattle.std.proofs.Common.{◌≡◌, ◌∙◌, ◌<◌, ℕ, List, refl, sym, subst, ap, length, get_or, arith}
+use Rattle.std.proofs.Common.{◌≡◌, ◌∙◌, ◌<◌, List, refl, sym, subst, ap, length, arith}
 use Rattle.std.proofs.lemmas.List.{length-map}
 use Rattle.gw_snap.specs.Lists.{BeginsWith}
 use Rattle.gw_store.specs.declared.event.Entry.{Entry}

@@ -1,5 +1,5 @@
 -- An event, taken or refused.
-use Rattle.std.proofs.Common.{ap, arith, refl}
+use Rattle.std.proofs.Common.{refl}
 use Rattle.gw_match.specs.model.Telling.{world_after}
 use Rattle.gw_report.proofs.Applying.{fails_is}
 use Rattle.gw_store.specs.Events.{answer}

@@ -1,5 +1,5 @@
 -- Before the first line.
-use Rattle.std.proofs.Common.{◌≡◌, ◌∙◌, List, [], length, replicate, ap, refl, subst, sym, arith, map}
+use Rattle.std.proofs.Common.{◌∙◌, List, [], length, replicate, ap, refl, subst, sym, arith, map}
 use Rattle.std.specs.BTreeMap.{get_by_text}
 use Rattle.gw_hub.specs.Control.{Control}
 use Rattle.gw_link.specs.Upstreams.{UpstreamState}

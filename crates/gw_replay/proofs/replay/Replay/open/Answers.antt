@@ -1,5 +1,5 @@
 -- A connection begins.
-use Rattle.std.proofs.Common.{◌≡◌, ◌∙◌, ◌<◌, arith, List, [], length, Option, Some, None, ap, append-nil, bytes_eq, refl, string_bytes, sym, subst}
+use Rattle.std.proofs.Common.{◌≡◌, ◌∙◌, arith, [], length, Option, Some, None, ap, append-nil, bytes_eq, refl, string_bytes, sym, subst}
 use Rattle.std.proofs.lemmas.List.{length-map}
 use Rattle.std.proofs.lemmas.Result.{on_ok_weaker}
 use Rattle.std.specs.BTreeMap.{get_by_text}
@@ -21,13 +21,12 @@ returns-clause-does g c = on_ok_weaker c.keep.result (λ kept. record {
       let name = c.args.name.now in
       let site = site_of old in
       let plain = new_client c.args.worker c.args.door in
-      let stands = c.new-conn.ensures.stands (place_at site c.args.door) refl in
       let client : IsClient site (length s.workers) (record { conn = c.new-conn.result; worker = c.args.worker }) plain = record {
         worker = refl;
         within = omega (arith, c.requires.worker, ap length k.workers, length-map old.workers.items (λ (w : Worker). w.books));
         door = c.requires.door;
-        stands = stands;
-        serving = record { bytes = []; fed = ([], stands.inlet); reading = c.new-conn.ensures.reading; unfinished = c.new-conn.ensures.unfinished };
+        stands = c.new-conn.ensures.stands (place_at site c.args.door) refl;
+        ready = c.new-conn.ensures.ready;
       } in
       let nobody : get_by_text old.clients name ≡ None = not_some (get_by_text old.clients name) (sym c.contains_key.ensures ∙ c.if-contains_key.false) in
       let none : s.clients name ≡ None = none_matched site (length s.workers) (get_by_text old.clients name) (s.clients name) (k.clients name) nobody in

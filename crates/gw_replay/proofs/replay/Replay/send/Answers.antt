@@ -1,7 +1,6 @@
 -- The client of a name sends a piece.
 use Rattle.std.proofs.Common.{rules, ◌≡◌, length, None, Option, bytes_eq, refl, subst, sym}
 use Rattle.std.proofs.lemmas.Map.Text.{btree_map_updates_text}
-use Rattle.std.proofs.lemmas.Result.{on_ok_weaker}
 use Rattle.std.specs.BTreeMap.{get_by_text}
 use Rattle.std.specs.Map.{update}
 use Rattle.gw_replay.specs.States.{HaltsAt, IsOpen, Keeps, Matches, site_of}

@@ -1,5 +1,5 @@
 -- What comes of a piece is written.
-use Rattle.std.proofs.Common.{◌≡◌, ◌∙◌, ◌<◌, ◌++◌, ℕ, List, length, map, set, drop, Ok, ap, refl, sym, subst, arith, string_bytes}
+use Rattle.std.proofs.Common.{[], ◌≡◌, ◌∙◌, ◌<◌, ◌++◌, ℕ, List, length, map, set, drop, Ok, ap, refl, sym, subst, arith, string_bytes}
 use Rattle.std.proofs.lemmas.List.{length-set}
 use Rattle.std.specs.Vec.{with_item}
 use Rattle.gw_answers.specs.model.ServedRows.{ServedRow}
@@ -7,9 +7,11 @@ use Rattle.gw_store.specs.declared.event.Entry.{Entry}
 use Rattle.gw_worker.specs.model.Sessions.{rows_of}
 use Rattle.gw_replay.specs.Lines.{written_text}
 use Rattle.gw_replay.specs.Replays.{place_at}
+use Rattle.gw_conns.proofs.Standing.{serving_of}
+use Rattle.gw_conns.specs.Standing.{conn_of}
 use Rattle.gw_replay.specs.States.{Halted, HasSeen, Unless, site_of}
 use Rattle.gw_replay.proofs.Keeping.{keeps_served}
-use Rattle.gw_replay.proofs.Serving.{Taken, backends_so, client_after, door_there, has_so, is_at, met_longer, met_so, paired_so, picks_there, printed_all, rows_before, rows_longer, rows_so, serves_so, stands_so, state_after, text_after, worker_seen, worker_within, wrote_so}
+use Rattle.gw_replay.proofs.Serving.{Taken, backends_so, client_after, door_there, has_so, is_at, met_longer, met_so, paired_so, picks_there, printed_all, rows_before, rows_longer, rows_so, serves_so, state_after, text_after, worker_seen, worker_within, wrote_so}
 use Rattle.gw_replay.proofs.Stepping.{err_so}
 use Rattle.gw_replay.proofs.Stopping.{halted_by}
 use Rattle.gw_store.proofs.Undoing.{there_set}
@@ -34,17 +36,17 @@ split_at-requires g c =
     let site = site_of c.args.self.now in
     let w = c.index_mut-worker.result.now in
     let seen = worker_seen c.args.self.now s c.args.client.now plain w keeps client c.index_mut-worker.ensures.value in
-    let v : Taken site c.args.self.now.controller.book c.args.piece.now s plain w c.take_published.new.worker c.take_published.new.client.conn c.in_ok-flow.flow c.no_bytes-link.result.sink.written c.take_published.new.link.sink.written
+    let v : Taken site c.args.self.now.controller.book c.args.piece.now s plain w c.take_published.new.worker (conn_of c.take_published.new.client.conn) c.in_ok-flow.flow [] c.take_published.new.wrote.items
     c.args.self.now.backends c.take_published.new.backends = record {
-      nothing = c.no_bytes-link.ensures.written;
+      nothing = refl;
       told_so = keeps.backends;
       worker = picks_there c.args.self.now s c.args.client.now plain w keeps client c.index_mut-worker.ensures.value;
       seen = seen;
       most = omega (arith, c.in_ok-flow.ensures.seen, ap length keeps.published);
       fixed = c.take_published.ensures.fixed;
       of = c.take_published.ensures.book;
-      served = c.in_ok-flow.ensures.served (place_at site plain.door) plain.bytes plain.parts plain.text (is_at site plain.door s.published c.args.self.now.controller.book w seen) client.stands;
-      serving = λ more. c.in_ok-flow.ensures.serving (ap Ok more);
+      served = (c.in_ok-flow.ensures.served (place_at site plain.door) plain.bytes plain.parts plain.text (is_at site plain.door s.published c.args.self.now.controller.book w seen) client.stands).served;
+      serving = λ more. serving_of c.take_published.new.client.conn (c.in_ok-flow.ensures.ready (ap Ok more));
     } in
     omega (
       arith,
@@ -61,17 +63,17 @@ split_at-requires-2 g c =
     let site = site_of c.args.self.now in
     let w = c.index_mut-worker.result.now in
     let seen = worker_seen c.args.self.now s c.args.client.now plain w keeps client c.index_mut-worker.ensures.value in
-    let v : Taken site c.args.self.now.controller.book c.args.piece.now s plain w c.take_published.new.worker c.take_published.new.client.conn c.in_ok-flow.flow c.no_bytes-link.result.sink.written c.take_published.new.link.sink.written
+    let v : Taken site c.args.self.now.controller.book c.args.piece.now s plain w c.take_published.new.worker (conn_of c.take_published.new.client.conn) c.in_ok-flow.flow [] c.take_published.new.wrote.items
     c.args.self.now.backends c.take_published.new.backends = record {
-      nothing = c.no_bytes-link.ensures.written;
+      nothing = refl;
       told_so = keeps.backends;
       worker = picks_there c.args.self.now s c.args.client.now plain w keeps client c.index_mut-worker.ensures.value;
       seen = seen;
       most = omega (arith, c.in_ok-flow.ensures.seen, ap length keeps.published);
       fixed = c.take_published.ensures.fixed;
       of = c.take_published.ensures.book;
-      served = c.in_ok-flow.ensures.served (place_at site plain.door) plain.bytes plain.parts plain.text (is_at site plain.door s.published c.args.self.now.controller.book w seen) client.stands;
-      serving = λ more. c.in_ok-flow.ensures.serving (ap Ok more);
+      served = (c.in_ok-flow.ensures.served (place_at site plain.door) plain.bytes plain.parts plain.text (is_at site plain.door s.published c.args.self.now.controller.book w seen) client.stands).served;
+      serving = λ more. serving_of c.take_published.new.client.conn (c.in_ok-flow.ensures.ready (ap Ok more));
     } in
     omega (arith, met_longer v, ap length c.exchanges-exchanges.ensures, ap length c.exchanges.ensures)
 
@@ -82,17 +84,17 @@ returns-clause-served g c = record {
       let site = site_of c.args.self.now in
       let w = c.index_mut-worker.result.now in
       let seen = worker_seen c.args.self.now s c.args.client.now plain w keeps client c.index_mut-worker.ensures.value in
-      let v : Taken site c.args.self.now.controller.book c.args.piece.now s plain w c.take_published.new.worker c.take_published.new.client.conn c.in_ok-flow.flow c.no_bytes-link.result.sink.written c.take_published.new.link.sink.written
+      let v : Taken site c.args.self.now.controller.book c.args.piece.now s plain w c.take_published.new.worker (conn_of c.take_published.new.client.conn) c.in_ok-flow.flow [] c.take_published.new.wrote.items
       c.args.self.now.backends c.take_published.new.backends = record {
-        nothing = c.no_bytes-link.ensures.written;
+        nothing = refl;
         told_so = keeps.backends;
         worker = picks_there c.args.self.now s c.args.client.now plain w keeps client c.index_mut-worker.ensures.value;
         seen = seen;
         most = omega (arith, c.in_ok-flow.ensures.seen, ap length keeps.published);
         fixed = c.take_published.ensures.fixed;
         of = c.take_published.ensures.book;
-        served = c.in_ok-flow.ensures.served (place_at site plain.door) plain.bytes plain.parts plain.text (is_at site plain.door s.published c.args.self.now.controller.book w seen) client.stands;
-        serving = λ more. c.in_ok-flow.ensures.serving (ap Ok more);
+        served = (c.in_ok-flow.ensures.served (place_at site plain.door) plain.bytes plain.parts plain.text (is_at site plain.door s.published c.args.self.now.controller.book w seen) client.stands).served;
+        serving = λ more. serving_of c.take_published.new.client.conn (c.in_ok-flow.ensures.ready (ap Ok more));
       } in
       let place = place_at site plain.door in
       let rows : c.split_at.result.1.now ≡ rows_of place v.served.took.more
@@ -119,14 +121,14 @@ returns-clause-served g c = record {
             ∙ ap (λ (r : List ServedRow). s.statuses ++ map (λ row. row.status) r) rows);
         printed = printed_all (string_bytes c.args.self.now.text) (string_bytes c.push_rows.new.text) (string_bytes c.push_written.new.text) (string_bytes c.push_end.new.text) _ _ _
             (c.in_ok-push_rows.ensures ∙ ap (λ (l : List ℕ). string_bytes c.args.self.now.text ++ l) (paired_so v c.args.said.line c.args.said.name.now c.split_at.result.1.now c.split_at-2.result.1.now rows met))
-            (c.in_ok-push_written.ensures ∙ ap (λ (l : List ℕ). string_bytes c.push_rows.new.text ++ written_text c.args.said.name.now c.args.said.line l) (c.written.ensures ∙ wrote_so v))
+            (c.in_ok-push_written.ensures ∙ ap (λ (l : List ℕ). string_bytes c.push_rows.new.text ++ written_text c.args.said.name.now c.args.said.line l) (c.as_slice-2.ensures.value ∙ wrote_so v))
             c.in_ok-push_end.ensures;
         client = λ more. record {
           worker = c.take_published.ensures.worker ∙ client.worker;
           within = subst (λ (m : ℕ). m < length (state_after v).workers) (sym c.take_published.ensures.worker) (subst (λ (n : ℕ). c.args.client.now.worker < n) (sym (length-set s.workers plain.worker c.take_published.new.worker.books)) client.within);
           door = client.door;
-          stands = stands_so v;
-          serving = c.in_ok-flow.ensures.serving (ap Ok more);
+          stands = (c.in_ok-flow.ensures.served place plain.bytes plain.parts plain.text (is_at site plain.door s.published c.args.self.now.controller.book w seen) client.stands).stands more;
+          ready = c.in_ok-flow.ensures.ready (ap Ok more);
         };
       };
 }
