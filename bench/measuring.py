@@ -41,20 +41,21 @@ compile-requires c =
 
 
 def stands_on():
-    """What each crate stands on, by crates.txt."""
-    crates = {}
+    """What each crate stands on, by crates.txt, and its line there, which has to stay as it is: a library that was built is one of that line."""
+    crates, lines = {}, {}
     with open(os.path.join(TOP, "crates.txt")) as file:
         for line in file:
-            name, colon, below = line.partition(":")
-            if colon and not name.startswith("#"):
-                crates[name.split()[0]] = below.split()
-    return crates
+            words, colon, below = line.partition(":")
+            if colon and not words.startswith("#"):
+                name = words.split()[0]
+                crates[name], lines[name] = below.split(), line
+    return crates, lines
 
 
 def run_program(source, below, proofs=None):
     """The lines that a program prints, whose main.rt is this text and which stands on these crates; `proofs` has the texts of its further
     files by their paths."""
-    crates = stands_on()
+    crates, lines = stands_on()
     wanted, left = [], list(below)
     while left:
         name = left.pop()
@@ -73,9 +74,7 @@ def run_program(source, below, proofs=None):
             with open(os.path.join(program, path), "w") as file:
                 file.write(text)
         with open(os.path.join(folder, "crates.txt"), "w") as file:
-            for name in crates:
-                if name in wanted:
-                    file.write("%s: %s\n" % (name, " ".join(crates[name])))
+            file.writelines(lines[name] for name in crates if name in wanted)
             file.write("measured: %s\n" % " ".join(below))
         run = subprocess.run(["rt", "run"], cwd=program, stdin=subprocess.DEVNULL, stdout=subprocess.PIPE,
                              stderr=subprocess.STDOUT, text=True)

@@ -20,6 +20,8 @@ MIB = 1024 * 1024
 LARGE = 8 * MIB
 MOST_BODY = MIB
 MOST_HEAD = 16_384
+# How many connections a polled worker has open at most, and how many clients come.
+MOST_OPEN, CROWD = 256, 300
 # Of what names of parameters may be made.
 NAME_LETTERS = string.ascii_letters + string.digits + "-._~!$'()*,;:@/"
 # What is to come at once has so many seconds.
@@ -43,6 +45,13 @@ class Act:
     ended: str
     wanted: str
     seconds: float
+
+
+@dataclass
+class Crowded:
+    """One of many clients, who may be there still."""
+    client: object
+    made: Act
 
 
 @dataclass
@@ -143,6 +152,29 @@ def opened_one(port, is_awaited):
         client.finish()
         how, came = client.end(SOON)
     return Act("Closed" if (how, came) == ("closed", b"") else how, "Closed", time.monotonic() - begin)
+
+
+# More clients than a polled worker has open.
+
+def crowded(place):
+    """At a door of one worker without objects, each of whose replies is 404. Those who come first are answered and stay; the others see the end at
+    once; and where one of the first has ended, the next who comes is answered."""
+    with contextlib.ExitStack() as stack:
+        serving = stack.enter_context(gateward(1, options=["--polled"]))
+        acts = [crowded_one(stack, serving.port, number < MOST_OPEN) for number in range(CROWD)]
+        acts[0].client.connection.close()
+        time.sleep(0.5)
+        return [act.made for act in acts + [crowded_one(stack, serving.port, True)]]
+
+
+def crowded_one(stack, port, has_room):
+    begin = time.monotonic()
+    client = stack.enter_context(talk(port))
+    try:
+        ended = "%d" % client.ask(get(BEHAVED)).code()
+    except Ended as fault:
+        ended = fault.how if fault.came else "closed at once" if fault.how == "closed" else fault.how
+    return Crowded(client, Act(ended, "404" if has_room else "closed at once", time.monotonic() - begin))
 
 
 # Resets.

@@ -34,6 +34,18 @@ pub record IsLent (f g : Plain) (piece : List ℕ) (b : UpstreamState) : Type 0 
   pub written : g.link.sink.written ≡ []
   pub up : g.up ≡ record { up = b; marks = first_poll [] }
 
+-- A connection that got this link, and these backends, was lent them.
+pub lent_by : {f g : Plain} {piece : List ℕ} {b : UpstreamState} {link : PollLinkState} → g.course ≡ f.course → g.link ≡ link → g.up ≡ record { up = b; marks = first_poll [] }
+    → concat link.pieces ≡ piece → link.has_end ≡ (length piece == 0) → has_marks link ≡ false → link.sink.written ≡ [] → IsLent f g piece b
+lent_by course is up left end unmarked written = record {
+  course = course;
+  left = ap (λ (l : PollLinkState). concat l.pieces) is ∙ left;
+  end = ap (λ (l : PollLinkState). l.has_end) is ∙ end;
+  unmarked = ap has_marks is ∙ unmarked;
+  written = ap (λ (l : PollLinkState). l.sink.written) is ∙ written;
+  up = up;
+}
+
 -- What a poll says of its histories, of the end, and of where it waits.
 abbrev pub Goes : Worker → Worker → Plain → Plain → Type 0
 Goes w w' g k = (p : Place) (h : History) → IsAt w p → Follows p g.course h

@@ -1,5 +1,5 @@
 -- How a connection of a client, which is served by calls or polled, stands for what came of it.
-use Rattle.std.specs.Prelude.{◌≡◌, ℕ, ◌++◌, Bool, false, List, []}
+use Rattle.std.specs.Prelude.{◌≡◌, ℕ, ◌++◌, Bool, false, true, List, []}
 use Rattle.gw_link.specs.Exchanges.{Exchange}
 use Rattle.gw_link.specs.declared.order.UpstreamCall.{UpstreamCall}
 use Rattle.gw_poll.specs.Courses.{Follows, IsIdle}
@@ -19,6 +19,11 @@ use Rattle.gw_conns.specs.declared.connection.Connection.TheVariants.{Called, Po
 abbrev pub conn_of : Connection → Conn
 conn_of (Called c) = c
 conn_of (Polled f) = f.course.conn
+
+-- Whether it is served by being polled.
+abbrev pub is_polled : Connection → Bool
+is_polled (Called c) = false
+is_polled (Polled f) = true
 
 -- What a polled connection has done, of which nothing is asked of a backend now.
 abbrev pub history_of : List ℕ → List Part → List Exchange → List ℕ → History

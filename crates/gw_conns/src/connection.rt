@@ -9,7 +9,7 @@ ghost use Rattle.gw_worker.specs.Conns.{IsServing, StandsFor};
 ghost use Rattle.gw_worker.specs.Flows.{Served as IsServed, outside};
 ghost use Rattle.gw_worker.specs.Workers.{IsAt};
 ghost use Rattle.gw_worker.specs.model.Sessions.{Part, Place};
-ghost use Rattle.gw_conns.specs.Standing.{IsReady, IsServedBy, Stands, conn_of};
+ghost use Rattle.gw_conns.specs.Standing.{IsReady, IsServedBy, Stands, conn_of, is_polled};
 
 use futures::task::{Context, Doorbell, Poll, Queue};
 use gw_link::{MemLink, MemSink, MemSource, MemUpstream};
@@ -36,6 +36,7 @@ impl Connection {
     pub fn new(alloc: Global, door: usize, polled: bool) -> Connection
         ensures stands { (p : Place) → p.door ≡ door → Stands result p [] [] [] }
         ensures ready { IsReady result }
+        ensures kind { is_polled result ≡ polled }
     {
         if !polled {
             return Connection::Called(Conn::new(alloc, door));
@@ -70,6 +71,7 @@ impl Connection {
             (outside (Some []) (Some backends.old.exchanges) backends.old.calls.faults)
             (outside (Some wrote.new.items) (Some backends.new.exchanges) backends.new.calls.faults) flow) }
         ensures ready { result ≡ Ok Flow.More → IsReady self.new }
+        ensures kind { is_polled self.new ≡ is_polled self.old }
         ensures becomes { OnOk result (Becomes backends.old backends.new) }
         ensures starved { OnOk result (backends.new.starved ≡ backends.old.starved) }
         ensures refused { result ≡ Err OpenFault.Place → 0 < worker.new.pass.refused }

@@ -237,6 +237,7 @@ impl<R: Net + Drop> PollUpstream for MioUpstream<R> {
         Poll::Ready(Err(self.faults.fail()))
     }
 
+    // Behind a request no backend has answered yet, so the first call asks the ring, and reads nothing.
     fn poll_receive(&mut self, cx: &mut Context<'_>, buf: &mut [u8]) -> Poll<Result<usize, Failed>>
         ensures within { IfDone result (λ n. n ≤ length buf.new) }
         ensures after { self.new ≡ record self.old { faults = after_poll result self.old.faults; waits = after_wait result self.old.waits } }
@@ -244,6 +245,9 @@ impl<R: Net + Drop> PollUpstream for MioUpstream<R> {
         ensures heard { OnPending result ((s : ℕ) → Hears cx.new s) }
         ensures task { KeepsTask cx.old cx.new }
     {
+        if !self.watch.hears_reads() {
+            return self.wait(cx, Interest::READABLE);
+        }
         if let Some(connection) = &mut self.connection {
             match read_piece(&mut connection.stream, buf) {
                 Ok(taken) => return Poll::Ready(Ok(taken)),

@@ -37,6 +37,14 @@ impl Watch {
         Ok(())
     }
 
+    /// Whether the ring hears of the socket when there is something to read.
+    pub(crate) fn hears_reads(&self) -> bool {
+        match self.interests {
+            Some(interests) => interests.is_readable(),
+            None => false,
+        }
+    }
+
     /// Another socket is watched from now on, which isn't registered.
     pub(crate) fn renew(&mut self) {
         self.interests = None;

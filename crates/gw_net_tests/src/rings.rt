@@ -12,7 +12,7 @@ use gw_polling::{PollEdge, PollLink, PollUpstream, Ring, RingFault, Woken};
 use gw_text::Socket;
 use std::alloc::{AllocGlobal, Global};
 use std::io::{Read, Write};
-use std::net::{Ipv4Addr, TcpListener};
+use std::net::{Ipv4Addr, Shutdown, TcpListener};
 use std::sync::Wait;
 use std::test::*;
 
@@ -231,6 +231,30 @@ fn a_ring_names_who_is_ready(rt: HostRuntime) -> Result<(), Fail> {
     let _third = ask(&rt, at, b"")?;
     assert!(rt; next_of(&rt, &task, &mut ring)?.number == 2 && names(&rt, &task, &mut ring, 2));
     assert!(rt; ring.faults() == 0);
+    Ok(())
+}
+
+#[test]
+fn what_comes_while_nobody_reads_is_read_later(rt: HostRuntime) -> Result<(), Fail> {
+    let task = MockTask::new(&rt)?;
+    let (mut ring, at) = ring(&rt)?;
+    let mut client = ask(&rt, at, b"")?;
+    let mut conn = next_of(&rt, &task, &mut ring)?;
+    assert!(rt; names(&rt, &task, &mut ring, 0));
+    assert!(rt; poll(&task, &mut conn, Call::Read).is_pending());
+    client.write_all(b"first")?;
+    assert!(rt; names(&rt, &task, &mut ring, 0));
+    assert!(rt; gives(&rt, &task, &mut ring, &mut conn, b"first"));
+    // What comes while nobody reads is named once, and is read later.
+    client.write_all(b"later")?;
+    assert!(rt; names(&rt, &task, &mut ring, 0));
+    assert!(rt; poll(&task, &mut conn, Call::Read) == Poll::Ready(Ok(5)));
+    assert!(rt; poll(&task, &mut conn, Call::Read).is_pending());
+    client.write_all(b"last")?;
+    client.shutdown(Shutdown::Write)?;
+    assert!(rt; names(&rt, &task, &mut ring, 0));
+    assert!(rt; gives(&rt, &task, &mut ring, &mut conn, b"last"));
+    assert!(rt; poll(&task, &mut conn, Call::Read) == Poll::Ready(Ok(0)));
     Ok(())
 }
 

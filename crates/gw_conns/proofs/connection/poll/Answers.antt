@@ -1,10 +1,9 @@
 -- A poll is lent a link that holds the piece, and the backends.
 use Rattle.std.proofs.Common.{Ok, ◌≡◌, ◌∙◌, ◌++◌, List, ℕ, ap, subst, sym}
-use Rattle.std.specs.List.{concat}
 use Rattle.gw_poll.specs.Courses.{CanGoOn}
 use Rattle.gw_poll.specs.declared.course.Course.{Course}
-use Rattle.gw_polling.specs.PollMemory.{PollLinkState, has_marks}
-use Rattle.gw_conns.proofs.Lending.{IsLent, ends_served, waits_served}
+use Rattle.gw_polling.specs.PollMemory.{PollLinkState}
+use Rattle.gw_conns.proofs.Lending.{IsLent, ends_served, lent_by, waits_served}
 use Rattle.gw_conns.proofs.connection.poll.Goals as goal
 
 pub poll-polled-requires-clause-going : goal.poll-polled-requires-clause-going
@@ -13,15 +12,9 @@ poll-polled-requires-clause-going c =
 
 pub returns-in-Pending-clause-served : goal.returns-in-Pending-clause-served
 returns-in-Pending-clause-served c = λ p bytes parts text at stands.
-    let link = c.lend.ensures.link in
-    let lent : IsLent c.args.conn.now c.lend.new.conn c.args.piece.now c.args.backends.now = record {
-      course = c.lend.ensures.course;
-      left = ap (λ (l : PollLinkState). concat l.pieces) link ∙ c.in_ok-link.ensures.left;
-      end = ap (λ (l : PollLinkState). l.has_end) link ∙ c.in_ok-link.ensures.end;
-      unmarked = ap has_marks link ∙ c.in_ok-link.ensures.unmarked;
-      written = ap (λ (l : PollLinkState). l.sink.written) link ∙ c.in_ok-link.ensures.written;
-      up = c.lend.ensures.up;
-    } in
+    let made = c.in_ok-link.ensures in
+    let lent : IsLent c.args.conn.now c.lend.new.conn c.args.piece.now c.args.backends.now =
+        lent_by c.lend.ensures.course c.lend.ensures.link c.lend.ensures.up made.left made.end made.unmarked made.written in
     let wrote = c.in_ok-extend_from_slice.ensures.items ∙ ap (λ (l : List ℕ). l ++ c.written.result.now) c.requires.none ∙ c.written.ensures
     ∙ ap (λ (l : PollLinkState). l.sink.written) (c.link.ensures.value ∙ c.take_back.ensures.link) in
     waits_served c.args.conn.now c.lend.new.conn c.poll-polled.new.self c.args.piece.now c.args.backends.now c.args.worker.now c.poll-polled.new.w lent c.requires.idle
@@ -30,15 +23,9 @@ returns-in-Pending-clause-served c = λ p bytes parts text at stands.
 
 pub returns-in-Ready-Ok-clause-served : goal.returns-in-Ready-Ok-clause-served
 returns-in-Ready-Ok-clause-served c = λ p bytes parts text at stands.
-    let link = c.lend.ensures.link in
-    let lent : IsLent c.args.conn.now c.lend.new.conn c.args.piece.now c.args.backends.now = record {
-      course = c.lend.ensures.course;
-      left = ap (λ (l : PollLinkState). concat l.pieces) link ∙ c.in_ok-link.ensures.left;
-      end = ap (λ (l : PollLinkState). l.has_end) link ∙ c.in_ok-link.ensures.end;
-      unmarked = ap has_marks link ∙ c.in_ok-link.ensures.unmarked;
-      written = ap (λ (l : PollLinkState). l.sink.written) link ∙ c.in_ok-link.ensures.written;
-      up = c.lend.ensures.up;
-    } in
+    let made = c.in_ok-link.ensures in
+    let lent : IsLent c.args.conn.now c.lend.new.conn c.args.piece.now c.args.backends.now =
+        lent_by c.lend.ensures.course c.lend.ensures.link c.lend.ensures.up made.left made.end made.unmarked made.written in
     let wrote = c.in_ok-extend_from_slice.ensures.items ∙ ap (λ (l : List ℕ). l ++ c.written.result.now) c.requires.none ∙ c.written.ensures
     ∙ ap (λ (l : PollLinkState). l.sink.written) (c.link.ensures.value ∙ c.take_back.ensures.link) in
     let inner : c.in-Ready-Ok.field-0 ≡ Ok c.in-Ready-Ok.why = rw c.in-Ready-Ok.is at c.in-Ready-Ok.field-0-is in
