@@ -8,6 +8,8 @@ use Rattle.gw_shared.specs.model.Buckets.{value_at}
 use Rattle.gw_shared.specs.model.Entries.{Entry}
 use Rattle.gw_cells.specs.declared.address.Address.{Address as Own}
 use Rattle.gw_cells.specs.declared.cell.Cell.{Cell}
+use Rattle.gw_cells.specs.declared.row_list.RowList.{RowList}
+use Rattle.gw_cells.specs.declared.row_list.RowList.TheVariants.{Few, Many}
 use Rattle.gw_cells.specs.model.Addresses.{Address, Place}
 use Rattle.gw_cells.specs.model.Choice.{first_found}
 use Rattle.gw_cells.specs.model.Probes.{names_for, places_for}
@@ -16,9 +18,14 @@ use Rattle.gw_cells.specs.model.Probes.{names_for, places_for}
 abbrev pub seen_address : Own → Address
 seen_address a = record { name = a.name.items; place = record { is_exact = a.is_exact; path = a.path.items } }
 
+-- The rows of a list, however it has them.
+abbrev pub rows_in : RowList → List Row
+rows_in (Few rows) = rows.items
+rows_in (Many rows) = rows
+
 -- The rows that ask for a path exactly, or as a prefix.
 abbrev pub in_cell : Cell → Bool → List Row
-in_cell cell is_exact = if is_exact then cell.exact.items else cell.prefix.items
+in_cell cell is_exact = rows_in (if is_exact then cell.exact else cell.prefix)
 
 -- The rows at a place, of one name.
 abbrev pub at_place : List (List (Entry Cell)) → Place → List Row

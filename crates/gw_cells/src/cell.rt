@@ -1,11 +1,12 @@
-ghost use Rattle.std.specs.Prelude.{◌≡◌, Bool, [], true, false, IfOk, OnOk, List, ◌∷◌};
+ghost use Rattle.std.specs.Prelude.{◌≡◌, Bool, [], Ok, true, false, IfOk, OnOk, List, ◌∷◌};
 ghost use Rattle.gw_cells.specs.Cells.{in_cell};
 ghost use Rattle.gw_cells.specs.Changes.{AddsRow, PutsRow, TakesOutRow};
 ghost use Rattle.gw_cells.specs.model.Addresses.{same_kind};
 ghost use Rattle.gw_cells.specs.model.Order.{IsInOrder};
 ghost use Rattle.gw_rows.specs.model.Rows.{Row as Plain};
 
-use crate::rows::{add_row, share_rows, take_out_row};
+use crate::row_list::RowList;
+use crate::rows::{add_row, take_out_row};
 use gw_rows::Row;
 use gw_shared::Shared;
 use gw_text::NoMemory;
@@ -14,8 +15,8 @@ use std::alloc::Global;
 /// The rows of one hostname and path, those that stand before the others first.
 #[derive(Drop)]
 pub(crate) struct Cell {
-    pub(crate) exact: Vec<Shared<Row>>,
-    pub(crate) prefix: Vec<Shared<Row>>,
+    pub(crate) exact: RowList,
+    pub(crate) prefix: RowList,
 }
 
 impl Cell {
@@ -24,8 +25,8 @@ impl Cell {
         ensures { (is_exact : Bool) → in_cell result is_exact ≡ [] }
     {
         Cell {
-            exact: Vec::new(alloc),
-            prefix: Vec::new(alloc),
+            exact: RowList::new(alloc),
+            prefix: RowList::new(alloc),
         }
     }
 
@@ -34,8 +35,8 @@ impl Cell {
         ensures { IfOk result (λ copy. (is_exact : Bool) → in_cell copy is_exact ≡ in_cell self.now is_exact) }
     {
         Ok(Cell {
-            exact: share_rows(alloc, self.exact.as_slice())?,
-            prefix: share_rows(alloc, self.prefix.as_slice())?,
+            exact: self.exact.share(alloc)?,
+            prefix: self.prefix.share(alloc)?,
         })
     }
 
@@ -43,32 +44,42 @@ impl Cell {
     pub(crate) fn is_empty(&self) -> bool
         ensures { result ≡ true → (is_exact : Bool) → in_cell self.now is_exact ≡ [] }
     {
-        self.exact.is_empty() && self.prefix.is_empty()
+        self.exact.len() == 0 && self.prefix.len() == 0
     }
 
     /// Adds a row; one that precedence doesn't tell from it gives way.
-    pub(crate) fn add(&mut self, is_exact: bool, row: &Shared<Row>) -> Result<(), NoMemory>
+    pub(crate) fn add(
+        &mut self,
+        alloc: Global,
+        is_exact: bool,
+        row: &Shared<Row>,
+    ) -> Result<(), NoMemory>
         ensures added { OnOk result (AddsRow row.now (in_cell self.old is_exact) (in_cell self.new is_exact)) }
         ensures put { OnOk result (PutsRow row.now (in_cell self.old is_exact) (in_cell self.new is_exact)) }
         ensures others { (other : Bool) → same_kind other is_exact ≡ false → in_cell self.new other ≡ in_cell self.old other }
     {
         if is_exact {
-            add_row(&mut self.exact, row)
+            add_row(alloc, &mut self.exact, row)
         } else {
-            add_row(&mut self.prefix, row)
+            add_row(alloc, &mut self.prefix, row)
         }
     }
 
     /// Takes out a row, and says whether it was there.
-    pub(crate) fn take_out(&mut self, is_exact: bool, row: &Row) -> bool
-        ensures out { TakesOutRow row.now (in_cell self.old is_exact) (in_cell self.new is_exact) }
-        ensures missing { result ≡ false → (rest : List Plain) → ¬ IsInOrder (row.now ∷ rest) (in_cell self.old is_exact) }
+    pub(crate) fn take_out(
+        &mut self,
+        alloc: Global,
+        is_exact: bool,
+        row: &Row,
+    ) -> Result<bool, NoMemory>
+        ensures out { OnOk result (TakesOutRow row.now (in_cell self.old is_exact) (in_cell self.new is_exact)) }
+        ensures missing { result ≡ Ok false → (rest : List Plain) → ¬ IsInOrder (row.now ∷ rest) (in_cell self.old is_exact) }
         ensures others { (other : Bool) → same_kind other is_exact ≡ false → in_cell self.new other ≡ in_cell self.old other }
     {
         if is_exact {
-            take_out_row(&mut self.exact, row)
+            take_out_row(alloc, &mut self.exact, row)
         } else {
-            take_out_row(&mut self.prefix, row)
+            take_out_row(alloc, &mut self.prefix, row)
         }
     }
 }

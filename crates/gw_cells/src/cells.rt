@@ -64,7 +64,7 @@ impl Cells {
     {
         let address = address_of(alloc, row)?;
         let mut cell = cell_at(alloc, &self.names, &address)?;
-        cell.add(address.is_exact, row)?;
+        cell.add(alloc, address.is_exact, row)?;
         put_at(alloc, &mut self.names, &address, cell)
     }
 
@@ -74,7 +74,7 @@ impl Cells {
     {
         let address = address_of(alloc, row)?;
         let mut cell = cell_at(alloc, &self.names, &address)?;
-        if !cell.take_out(address.is_exact, row) {
+        if !cell.take_out(alloc, address.is_exact, row)? {
             return Ok(());
         }
         put_at(alloc, &mut self.names, &address, cell)

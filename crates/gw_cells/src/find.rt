@@ -8,29 +8,62 @@ ghost use Rattle.gw_query.specs.model.Parameters.{parameters_of};
 
 use crate::maps::Names;
 use crate::paths::Paths;
+use crate::row_list::RowList;
 use gw_frames::Request;
 use gw_query::Parameters;
 use gw_rows::{Row, fits_with};
-use gw_shared::Shared;
+use gw_shared::{Shared, SharedList};
 use gw_text::Steps;
 use std::sync::ledger::Ledger;
 
-// The first row of a cell that fits.
+// The first row that fits, of those that stand in one piece.
 #[tactic(auto, unfolding(crate::specs::Cells::first_fit))]
-fn first_fit<'c>(
-    cell: &'c [Shared<Row>],
+fn first_in_one<'c>(
+    rows: &'c [Shared<Row>],
     request: &Request,
     parameters: &Parameters,
 ) -> Option<&'c Row>
     requires { parameters.now ≡ parameters_of request.now.query }
-    ensures { option_copied result ≡ cells.first_fit request.now cell.now }
+    ensures { option_copied result ≡ cells.first_fit request.now rows.now }
 {
-    'rows: for row in cell {
+    'rows: for row in rows {
         if fits_with(row, request, parameters) {
             return Some(row);
         }
     }
     None
+}
+
+// The first row that fits, piece by piece.
+#[tactic(auto, unfolding(crate::specs::Cells::first_fit))]
+fn first_in_many<'c>(
+    rows: &'c SharedList<Row>,
+    request: &Request,
+    parameters: &Parameters,
+) -> Option<&'c Row>
+    requires { parameters.now ≡ parameters_of request.now.query }
+    ensures { option_copied result ≡ cells.first_fit request.now rows.now }
+{
+    let mut at = 0;
+    'pieces: while at < rows.len() {
+        let piece = rows.piece(at);
+        if let Some(row) = first_in_one(piece, request, parameters) {
+            return Some(row);
+        }
+        at += piece.len();
+    }
+    None
+}
+
+// The first row of a cell that fits.
+fn first_fit<'c>(cell: &'c RowList, request: &Request, parameters: &Parameters) -> Option<&'c Row>
+    requires { parameters.now ≡ parameters_of request.now.query }
+    ensures { option_copied result ≡ cells.first_fit request.now (cells.rows_in cell.now) }
+{
+    match cell {
+        RowList::Few(rows) => first_in_one(rows.as_slice(), request, parameters),
+        RowList::Many(rows) => first_in_many(rows, request, parameters),
+    }
 }
 
 #[tactic(auto, unfolding(crate::specs::Cells::first_fit))]
@@ -39,7 +72,7 @@ fn probe_exact<'c>(paths: &'c Paths, request: &Request, parameters: &Parameters)
     ensures { option_copied result ≡ cells.first_fit request.now (cells.at_place paths.now (record { is_exact = true; path = request.now.path })) }
 {
     let cell = paths.get(request.path.bytes())?;
-    first_fit(cell.exact.as_slice(), request, parameters)
+    first_fit(&cell.exact, request, parameters)
 }
 
 #[tactic(auto, unfolding(crate::specs::Cells::first_fit))]
@@ -53,7 +86,7 @@ fn probe_prefix<'c>(
     ensures { option_copied result ≡ cells.first_fit request.now (cells.at_place paths.now (probes.prefix_place prefix.now)) }
 {
     let cell = paths.get(prefix)?;
-    first_fit(cell.prefix.as_slice(), request, parameters)
+    first_fit(&cell.prefix, request, parameters)
 }
 
 // Probes what stands before a byte of the path, where it is a slash.

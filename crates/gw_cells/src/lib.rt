@@ -10,6 +10,7 @@ mod find;
 mod laws;
 mod maps;
 mod paths;
+mod row_list;
 mod rows;
 mod standing;
 

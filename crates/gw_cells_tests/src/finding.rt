@@ -79,7 +79,12 @@ const REQUESTS: &[(&str, &str, &str)] = &[
     ("t.example.com", "/rule/x", "first-rule"),
     ("t.example.com", "/match", "first-match"),
     ("t.example.com", "/host", "first-host"),
+    ("m.example.com", "/many/x", "many-00"),
+    ("m.example.com", "/man", "wild"),
 ];
+
+/// How many rows more there are at one hostname and path, which differ in rule and match alone.
+const MANY: u32 = 70;
 
 /// Two rows of one Route, and whether the first one is put where the second stands.
 const PAIRS: &[(&str, &str, bool)] = &[
@@ -132,7 +137,7 @@ const PAIRS: &[(&str, &str, bool)] = &[
 ];
 
 /// In how many turns rows are added or taken out: enough that all are.
-const TURNS: u32 = 40;
+const TURNS: u32 = 100;
 
 fn hostname(alloc: Global, text: &str) -> Result<Option<Host>, TextFault> {
     if text.is_empty() {
@@ -175,8 +180,20 @@ fn written_row(alloc: Global, written: &str) -> Result<Shared<Row>, Fail> {
     Ok(Shared::new(alloc, row)?)
 }
 
-fn all_rows(alloc: Global) -> Result<Vec<Shared<Row>>, Fail> {
+fn many_rows(alloc: Global) -> Result<Vec<Shared<Row>>, Fail> {
     let mut rows = Vec::new(alloc);
+    for number in 0..MANY {
+        let (rule, place) = (number / 10, number % 10);
+        let written = format!(in alloc;
+            "many-{rule}{place}|m.example.com|/many||d/many|0{rule}{place}0"
+        )?;
+        rows.push(written_row(alloc, written.as_str())?)?;
+    }
+    Ok(rows)
+}
+
+fn all_rows(alloc: Global) -> Result<Vec<Shared<Row>>, Fail> {
+    let mut rows = many_rows(alloc)?;
     for written in ROWS {
         rows.push(written_row(alloc, written)?)?;
     }

@@ -15,5 +15,5 @@ returns c = λ rest are.
     (λ now. all_take_out c.args.row.now old new (in_cell c.in_ok-cell.cell) (in_cell c.take_out.new.self) (seen_address c.in_ok-address.address)
     c.in_ok-address.ensures
     (record { copied = c.in_ok-cell.ensures; others = c.take_out.ensures.others; now = λ a. now a.name a.place })
-    c.take_out.ensures.out rest are)
+    c.in_ok-take_out.ensures.out rest are)
     c.put_at.ensures
