@@ -64,7 +64,7 @@ impl Endings {
     }
 
     /// Ends a connection. The oldest one is closed where too many end.
-    pub(crate) fn begin(&mut self, number: u64, link: MioLink, clock: &impl Clock) {
+    pub(crate) fn begin<R: Clock + Drop>(&mut self, number: u64, link: MioLink<R>, clock: &R) {
         let Some((mut stream, mut watch)) = link.into_open() else {
             return;
         };

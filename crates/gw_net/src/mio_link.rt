@@ -6,6 +6,7 @@ ghost use Rattle.gw_net.specs.Real.{PolledLinkState, after_poll, after_wait};
 
 use crate::fault_count::FaultCount;
 use crate::pieces::{read_piece, write_piece};
+use crate::streams::MOST_SILENCE;
 use crate::wait_count::WaitCount;
 use crate::watch::Watch;
 use futures::task::{Context, Poll};
@@ -15,28 +16,31 @@ use mio::Interest;
 use mio::net::TcpStream;
 use std::io::ErrorKind;
 use std::marker::Model;
+use std::rt::Clock;
 
 /// A connection with a client over TCP that never waits. It tells no content. Where a read or a write finds it not ready, its ring names
-/// it when it is. Dropping it closes the connection.
+/// it when it is, and every few seconds; a call that finds it not ready for 30 seconds fails. Dropping it closes the connection.
 #[derive(Drop)]
-pub struct MioLink {
+pub struct MioLink<R: Clock + Drop> {
     stream: TcpStream,
-    watch: Watch,
+    watch: Watch<R>,
     is_ended: bool,
     faults: FaultCount,
     read_waits: WaitCount,
     write_waits: WaitCount,
 }
 
-impl Model for MioLink {
+impl<R: Clock + Drop> Model for MioLink<R> {
+    ghost use Rattle.gw_net.specs.Real.{PolledLinkState};
+
     ghost Value = { PolledLinkState };
 
     ghost view = { λ l. record { faults = l.faults; read_waits = l.read_waits; write_waits = l.write_waits } };
 }
 
-impl MioLink {
+impl<R: Clock + Drop> MioLink<R> {
     /// A link over a stream that doesn't wait.
-    pub(crate) fn new(stream: TcpStream, watch: Watch) -> Self
+    pub(crate) fn new(stream: TcpStream, watch: Watch<R>) -> Self
         ensures { result ≡ record { faults = 0; read_waits = 0; write_waits = 0 } }
     {
         MioLink {
@@ -71,7 +75,7 @@ impl MioLink {
     }
 
     /// The stream, and how it is watched; none where the client has said that it sends no more.
-    pub(crate) fn into_open(self) -> Option<(TcpStream, Watch)> {
+    pub(crate) fn into_open(self) -> Option<(TcpStream, Watch<R>)> {
         if self.is_ended {
             return None;
         }
@@ -87,7 +91,10 @@ impl MioLink {
         ensures heard { OnPending result ((s : ℕ) → Hears cx.new s) }
         ensures task { KeepsTask cx.old cx.new }
     {
-        match self.watch.hear(&mut self.stream, Interest::READABLE) {
+        match self
+            .watch
+            .wait(&mut self.stream, Interest::READABLE, MOST_SILENCE)
+        {
             Ok(()) => self.read_waits.wait(cx),
             Err(_) => Poll::Ready(Err(self.faults.fail())),
         }
@@ -101,14 +108,17 @@ impl MioLink {
         ensures heard { OnPending result ((s : ℕ) → Hears cx.new s) }
         ensures task { KeepsTask cx.old cx.new }
     {
-        match self.watch.hear(&mut self.stream, Interest::WRITABLE) {
+        match self
+            .watch
+            .wait(&mut self.stream, Interest::WRITABLE, MOST_SILENCE)
+        {
             Ok(()) => self.write_waits.wait(cx),
             Err(_) => Poll::Ready(Err(self.faults.fail())),
         }
     }
 }
 
-impl PollLink for MioLink {
+impl<R: Clock + Drop> PollLink for MioLink<R> {
     ghost left = { λ _. None };
 
     ghost end = { λ _. None };
@@ -135,6 +145,7 @@ impl PollLink for MioLink {
     {
         match read_piece(&mut self.stream, buf) {
             Ok(taken) => {
+                self.watch.found_ready();
                 self.is_ended = taken == 0;
                 Poll::Ready(Ok(taken))
             }
@@ -153,7 +164,10 @@ impl PollLink for MioLink {
         ensures task { KeepsTask cx.old cx.new }
     {
         match write_piece(&mut self.stream, piece) {
-            Ok(taken) if taken > 0 => Poll::Ready(Ok(taken)),
+            Ok(taken) if taken > 0 => {
+                self.watch.found_ready();
+                Poll::Ready(Ok(taken))
+            }
             Err(error) if error.kind() == ErrorKind::WouldBlock => self.wait_to_write(cx),
             _ => Poll::Ready(Err(self.faults.fail())),
         }

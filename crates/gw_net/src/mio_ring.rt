@@ -25,7 +25,7 @@ use std::marker::Model;
 use std::net::Net;
 use std::rt::Clock;
 use std::sync::{Arc, Wait};
-use std::time::Duration;
+use std::time::{Duration, Instant};
 
 // The most sockets of which the system tells at once.
 const MOST_EVENTS: usize = 256;
@@ -37,11 +37,14 @@ const LISTENER: usize = 0;
 // end.
 const PAUSE: u64 = 100;
 
+// How many seconds pass before all open connections are named again, so that each gives up by itself what isn't ready for too long.
+const ROUND: u64 = 5;
+
 // How often a wait that nothing came of is begun again.
 const MOST_TRIES: u64 = u64::MAX;
 
 /// The connections of a listening socket, which others may share, and where one worker waits until some of them are ready. Each connection
-/// is named once when it came, and then when the system tells that one of its sockets is ready.
+/// is named once when it came, then when the system tells that one of its sockets is ready, and every few seconds.
 #[derive(Drop)]
 pub struct MioRing<R: Net + Clock + Clone + Drop> {
     rt: R,
@@ -56,6 +59,8 @@ pub struct MioRing<R: Net + Clock + Clone + Drop> {
     // A connection was taken since the system was asked.
     has_taken: bool,
     is_paused: bool,
+    // When all that were open were named.
+    round: Option<Instant>,
     endings: Endings,
     faults: FaultCount,
 }
@@ -76,7 +81,7 @@ fn listen_by<R: Net>(rt: &R, listener: &mut TcpListener) -> io::Result<(mio::Pol
     Ok((poll, registry))
 }
 
-type Came<R> = Woken<MioLink, MioUpstream<R>>;
+type Came<R> = Woken<MioLink<R>, MioUpstream<R>>;
 
 impl<R: Net + Clock + Clone + Drop> MioRing<R> {
     // A ring of these parts.
@@ -101,6 +106,7 @@ impl<R: Net + Clock + Clone + Drop> MioRing<R> {
             may_accept: true,
             has_taken: false,
             is_paused: false,
+            round: None,
             endings: Endings::new(alloc)?,
             faults: FaultCount::new(),
         })
@@ -161,8 +167,14 @@ impl<R: Net + Clock + Clone + Drop> MioRing<R> {
         ensures err { OnErr result (self.new ≡ self.old) }
     {
         let token = Token(self.next as usize + 1);
-        let link = MioLink::new(stream, Watch::new(self.registry.clone()?, token));
-        let up = MioUpstream::new(self.rt.clone()?, Watch::new(self.registry.clone()?, token));
+        let link = MioLink::new(
+            stream,
+            Watch::new(self.rt.clone()?, self.registry.clone()?, token),
+        );
+        let up = MioUpstream::new(
+            self.rt.clone()?,
+            Watch::new(self.rt.clone()?, self.registry.clone()?, token),
+        );
         self.named.push(self.next)?;
         self.open_numbers.push(self.next)?;
         let number = self.next;
@@ -224,7 +236,26 @@ impl<R: Net + Clock + Clone + Drop> MioRing<R> {
         if self.is_paused || !self.endings.is_empty() {
             return Some(Duration::from_millis(PAUSE));
         }
-        None
+        if self.open_numbers.is_empty() {
+            return None;
+        }
+        Some(Duration::from_secs(ROUND))
+    }
+
+    // Has all open connections named, where they weren't for a while.
+    fn name_all(&mut self) -> Result<(), NoMemory>
+        ensures { self.new ≡ self.old }
+    {
+        let Ok(now) = Instant::now(&self.rt) else {
+            return Ok(());
+        };
+        let last = self.round.unwrap_or(now);
+        if now.duration_since(last) < Duration::from_secs(ROUND) {
+            self.round = Some(last);
+            return Ok(());
+        }
+        self.round = Some(now);
+        self.named.extend_from_slice(self.open_numbers.as_slice())
     }
 
     // Waits until the system tells of sockets.
@@ -237,11 +268,15 @@ impl<R: Net + Clock + Clone + Drop> MioRing<R> {
         if self.poll.poll(&mut self.events, most).is_err() {
             return Err(self.fail());
         }
-        let waits = note(&self.events, &mut self.named, &mut self.endings)?;
+        let noted = note(&self.events, &mut self.named, &mut self.endings);
+        // Where memory was wanted, somebody may wait all the same, and who is open is named again soon.
+        let waits = *noted.as_ref().unwrap_or(&true);
         self.may_accept = self.may_accept || waits || self.is_paused;
         self.has_taken = false;
         self.is_paused = false;
         self.endings.close_old(&self.rt);
+        noted?;
+        self.name_all()?;
         Ok(())
     }
 
@@ -259,7 +294,7 @@ impl<R: Net + Clock + Clone + Drop> MioRing<R> {
 }
 
 impl<R: Net + Clock + Clone + Drop> Ring for MioRing<R> {
-    type Link = MioLink;
+    type Link = MioLink<R>;
 
     type Up = MioUpstream<R>;
 
@@ -299,7 +334,7 @@ impl<R: Net + Clock + Clone + Drop> Ring for MioRing<R> {
         Err(self.fail())
     }
 
-    fn close(&mut self, number: u64, link: MioLink, up: MioUpstream<R>)
+    fn close(&mut self, number: u64, link: MioLink<R>, up: MioUpstream<R>)
         ensures closes { self.new ≡ record self.old { open_numbers = without number self.old.open_numbers } }
         ensures unopened { is_among number self.old.open_numbers ≡ false → self.new ≡ self.old }
     {

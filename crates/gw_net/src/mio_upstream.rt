@@ -8,7 +8,7 @@ ghost use Rattle.gw_net.specs.Real.{PolledUpstreamState, after_poll, after_wait,
 
 use crate::fault_count::FaultCount;
 use crate::pieces::{read_piece, write_piece};
-use crate::streams::address;
+use crate::streams::{MOST_REACH, MOST_SILENCE, address};
 use crate::wait_count::WaitCount;
 use crate::watch::Watch;
 use futures::task::{Context, Poll};
@@ -21,6 +21,7 @@ use std::io;
 use std::io::ErrorKind;
 use std::marker::Model;
 use std::net::Net;
+use std::rt::Clock;
 
 // A connection with the backend at a socket, or one that is being opened.
 #[derive(Drop)]
@@ -68,18 +69,19 @@ impl Connection {
 }
 
 /// Reaches backends over TCP, by one connection at a time, and never waits. It tells no content. Where a call finds it not ready, its
-/// ring names the connection for which it works when it is. Dropping it closes its connection.
+/// ring names the connection for which it works when it is, and every few seconds; a backend that isn't reached within 5 seconds, or isn't
+/// ready for 30, fails the call. Dropping it closes its connection.
 #[derive(Drop)]
-pub struct MioUpstream<R: Net + Drop> {
+pub struct MioUpstream<R: Net + Clock + Drop> {
     rt: R,
-    watch: Watch,
+    watch: Watch<R>,
     opening: Option<Connection>,
     connection: Option<Connection>,
     faults: FaultCount,
     waits: WaitCount,
 }
 
-impl<R: Net + Drop> Model for MioUpstream<R> {
+impl<R: Net + Clock + Drop> Model for MioUpstream<R> {
     ghost use Rattle.std.specs.Prelude.{option_map};
     ghost use Rattle.gw_net.specs.Real.{PolledUpstreamState};
 
@@ -88,9 +90,9 @@ impl<R: Net + Drop> Model for MioUpstream<R> {
     ghost view = { λ u. record { at = option_map (λ c. c.at) u.connection; faults = u.faults; waits = u.waits } };
 }
 
-impl<R: Net + Drop> MioUpstream<R> {
+impl<R: Net + Clock + Drop> MioUpstream<R> {
     /// An upstream without a connection.
-    pub(crate) fn new(rt: R, watch: Watch) -> Self
+    pub(crate) fn new(rt: R, watch: Watch<R>) -> Self
         ensures { result ≡ record { at = None; faults = 0; waits = 0 } }
     {
         MioUpstream {
@@ -140,7 +142,11 @@ impl<R: Net + Drop> MioUpstream<R> {
         ensures task { KeepsTask cx.old cx.new }
     {
         if let Some(connection) = &mut self.connection {
-            if self.watch.hear(&mut connection.stream, wanted).is_ok() {
+            if self
+                .watch
+                .wait(&mut connection.stream, wanted, MOST_SILENCE)
+                .is_ok()
+            {
                 return self.waits.wait(cx);
             }
         }
@@ -163,7 +169,7 @@ impl<R: Net + Drop> MioUpstream<R> {
         let mut opening = opening;
         if self
             .watch
-            .hear(&mut opening.stream, Interest::WRITABLE)
+            .wait(&mut opening.stream, Interest::WRITABLE, MOST_REACH)
             .is_err()
         {
             return Poll::Ready(Err(self.faults.fail()));
@@ -173,7 +179,7 @@ impl<R: Net + Drop> MioUpstream<R> {
     }
 }
 
-impl<R: Net + Drop> PollUpstream for MioUpstream<R> {
+impl<R: Net + Clock + Drop> PollUpstream for MioUpstream<R> {
     ghost use Rattle.std.specs.Prelude.{◌≤◌, None, refl};
     ghost use Rattle.std.proofs.Common.{rules};
     ghost use Rattle.gw_link.specs.Faults.{HasRisen};
@@ -208,6 +214,7 @@ impl<R: Net + Drop> PollUpstream for MioUpstream<R> {
         };
         match opening.is_reached() {
             Ok(true) => {
+                self.watch.found_ready();
                 self.connection = Some(opening);
                 Poll::Ready(Ok(()))
             }
@@ -226,7 +233,10 @@ impl<R: Net + Drop> PollUpstream for MioUpstream<R> {
     {
         if let Some(connection) = &mut self.connection {
             match connection.send(piece) {
-                Ok(taken) if taken > 0 => return Poll::Ready(Ok(taken)),
+                Ok(taken) if taken > 0 => {
+                    self.watch.found_ready();
+                    return Poll::Ready(Ok(taken));
+                }
                 Err(error) if error.kind() == ErrorKind::WouldBlock => return self.wait(
                     cx,
                     Interest::WRITABLE,
@@ -250,7 +260,10 @@ impl<R: Net + Drop> PollUpstream for MioUpstream<R> {
         }
         if let Some(connection) = &mut self.connection {
             match read_piece(&mut connection.stream, buf) {
-                Ok(taken) => return Poll::Ready(Ok(taken)),
+                Ok(taken) => {
+                    self.watch.found_ready();
+                    return Poll::Ready(Ok(taken));
+                }
                 Err(error) if error.kind() == ErrorKind::WouldBlock => return self.wait(
                     cx,
                     Interest::READABLE,

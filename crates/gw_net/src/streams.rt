@@ -3,8 +3,11 @@ use std::io;
 use std::net::{Ipv4Addr, SocketAddr, SocketAddrV4, TcpStream};
 use std::time::Duration;
 
-// How many seconds a peer may be silent, or take nothing, before the call that waits for it fails.
-const MOST_SILENCE: u64 = 30;
+/// How many seconds a peer may be silent, or take nothing, before the call that waits for it fails.
+pub(crate) const MOST_SILENCE: u64 = 30;
+
+/// How many seconds may pass until a backend is reached.
+pub(crate) const MOST_REACH: u64 = 5;
 
 /// Makes a stream send each piece at once, and bounds how long its calls wait.
 pub(crate) fn prepare(stream: &TcpStream) -> io::Result<()> {

@@ -5,16 +5,13 @@ ghost use Rattle.gw_net.specs.Real.{UpstreamState, after_call, after_connect};
 
 use crate::fault_count::FaultCount;
 use crate::pieces::{read_piece, write_piece};
-use crate::streams::{address, prepare_reads, prepare_writes};
+use crate::streams::{MOST_REACH, address, prepare_reads, prepare_writes};
 use gw_link::{Failed, Upstream};
 use gw_text::Socket;
 use std::io;
 use std::marker::Model;
 use std::net::{Net, TcpListener, TcpStream};
 use std::time::Duration;
-
-// How many seconds a backend may take to be reached.
-const MOST_REACH: u64 = 5;
 
 // The most bytes of a first piece that a connection takes at once whatever its options: one segment's memory, which it always has.
 const MOST_AT_ONCE: usize = 4096;

@@ -12,15 +12,16 @@ use gw_polling::{PollEdge, PollLink, PollUpstream, Ring, RingFault, Woken};
 use gw_text::Socket;
 use std::alloc::{AllocGlobal, Global};
 use std::io::{Read, Write};
-use std::net::{Ipv4Addr, Shutdown, TcpListener};
+use std::net::{Ipv4Addr, Shutdown, SocketAddr, TcpListener, TcpStream};
 use std::sync::Wait;
 use std::test::*;
+use std::time::Duration;
 
 type Own = MioRing<HostRuntime>;
 
 type Up = MioUpstream<HostRuntime>;
 
-type Answer = Result<Woken<MioLink, Up>, RingFault>;
+type Answer = Result<Woken<MioLink<HostRuntime>, Up>, RingFault>;
 
 // One wait of a ring, in a poll of a task.
 #[derive(Drop)]
@@ -55,7 +56,7 @@ enum Call {
 #[derive(Drop)]
 struct Conn {
     number: u64,
-    link: MioLink,
+    link: MioLink<HostRuntime>,
     up: Up,
     buf: [u8; 16],
     call: Call,
@@ -309,6 +310,35 @@ fn an_upstream_is_named_when_its_backend_answers(rt: HostRuntime) -> Result<(), 
     assert!(rt; connected == Some(Err(Failed)));
     close(&mut ring, conn);
     assert!(rt; ring.open_numbers().is_empty() && ring.faults() == 0);
+    Ok(())
+}
+
+// Connections that wait in the queue of a listener, of 128 at most, until there is no room for one more.
+fn fill_queue(rt: &HostRuntime, at: SocketAddr) -> Result<Vec<TcpStream>, Fail> {
+    let mut waiting = Vec::new(rt.alloc());
+    for _ in 0..200 {
+        match TcpStream::connect_timeout(rt, &at, Duration::from_millis(200)) {
+            Ok(stream) => waiting.push(stream)?,
+            Err(_) => break,
+        }
+    }
+    Ok(waiting)
+}
+
+#[test]
+fn a_backend_that_is_not_reached_fails_in_time(rt: HostRuntime) -> Result<(), Fail> {
+    let task = MockTask::new(&rt)?;
+    let (mut ring, at) = ring(&rt)?;
+    let listener = TcpListener::bind(&rt, (Ipv4Addr::LOCALHOST, 0))?;
+    let backend = listener.local_addr()?;
+    let _waiting = fill_queue(&rt, backend)?;
+    let _client = ask(&rt, at, b"")?;
+    let mut conn = next_of(&rt, &task, &mut ring)?;
+    assert!(rt; names(&rt, &task, &mut ring, 0));
+    // Nobody tells of the socket: the ring names the connection every few seconds, and after the limit the call fails.
+    let call = Call::Connect(backend.port());
+    assert!(rt; done(&rt, &task, &mut ring, &mut conn, call) == Some(Err(Failed)));
+    assert!(rt; conn.up.faults() == 1 && ring.faults() == 0);
     Ok(())
 }
 
