@@ -14,7 +14,7 @@ pub returns-in-Pending-clause-served : goal.returns-in-Pending-clause-served
 returns-in-Pending-clause-served c = λ p bytes parts text at stands.
     let made = c.in_ok-link.ensures in
     let lent : IsLent c.args.conn.now c.lend.new.conn c.args.piece.now c.args.backends.now =
-        lent_by c.lend.ensures.course c.lend.ensures.link c.lend.ensures.up made.left made.end made.unmarked made.written in
+    lent_by c.lend.ensures.course c.lend.ensures.link c.lend.ensures.up made.left made.end made.unmarked made.written in
     let wrote = c.in_ok-extend_from_slice.ensures.items ∙ ap (λ (l : List ℕ). l ++ c.written.result.now) c.requires.none ∙ c.written.ensures
     ∙ ap (λ (l : PollLinkState). l.sink.written) (c.link.ensures.value ∙ c.take_back.ensures.link) in
     waits_served c.args.conn.now c.lend.new.conn c.poll-polled.new.self c.args.piece.now c.args.backends.now c.args.worker.now c.poll-polled.new.w lent c.requires.idle
@@ -25,7 +25,7 @@ pub returns-in-Ready-Ok-clause-served : goal.returns-in-Ready-Ok-clause-served
 returns-in-Ready-Ok-clause-served c = λ p bytes parts text at stands.
     let made = c.in_ok-link.ensures in
     let lent : IsLent c.args.conn.now c.lend.new.conn c.args.piece.now c.args.backends.now =
-        lent_by c.lend.ensures.course c.lend.ensures.link c.lend.ensures.up made.left made.end made.unmarked made.written in
+    lent_by c.lend.ensures.course c.lend.ensures.link c.lend.ensures.up made.left made.end made.unmarked made.written in
     let wrote = c.in_ok-extend_from_slice.ensures.items ∙ ap (λ (l : List ℕ). l ++ c.written.result.now) c.requires.none ∙ c.written.ensures
     ∙ ap (λ (l : PollLinkState). l.sink.written) (c.link.ensures.value ∙ c.take_back.ensures.link) in
     let inner : c.in-Ready-Ok.field-0 ≡ Ok c.in-Ready-Ok.why = rw c.in-Ready-Ok.is at c.in-Ready-Ok.field-0-is in
