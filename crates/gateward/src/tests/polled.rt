@@ -12,26 +12,66 @@ use std::thread::Threads;
 
 // A service of one door to which two clients come. The second half of the first one's request comes late.
 struct Row {
-    // The numbers of the calls for rings that fail.
+    // The numbers of the calls of the edge, of those for rings, of the waits at the ring, and of the starts that fail.
+    edge: &'static [u64],
     rings: &'static [u64],
+    waits: &'static [u64],
+    starts: &'static [u64],
     code: u8,
     text: &'static str,
     // What the clients are written, in the order in which their connections are closed.
     written: &'static [&'static str],
 }
 
+const WELL: Row = Row {
+    edge: &[],
+    rings: &[],
+    waits: &[],
+    starts: &[],
+    code: 0,
+    text: "{\"ready\":true}\n",
+    written: &[REPLY, REPLY],
+};
+
+// The admin socket can't be bound, or the ring not be had.
+const UNBOUND: Row = Row {
+    code: 5,
+    text: "{\"fault\":\"bind\"}\n",
+    written: &[],
+    ..WELL
+};
+
+// The job of the admin endpoint isn't started, or that of the worker.
+const UNSTARTED: Row = Row {
+    code: 5,
+    text: "{\"ready\":true}\n{\"fault\":\"start\"}\n",
+    written: &[],
+    ..WELL
+};
+
 const ROWS: &[Row] = &[
+    WELL,
     Row {
-        rings: &[],
-        code: 0,
-        text: "{\"ready\":true}\n",
-        written: &[REPLY, REPLY],
+        edge: &[0],
+        ..UNBOUND
     },
     Row {
         rings: &[0],
-        code: 5,
-        text: "{\"fault\":\"bind\"}\n",
-        written: &[],
+        ..UNBOUND
+    },
+    Row {
+        starts: &[0],
+        ..UNSTARTED
+    },
+    Row {
+        starts: &[1],
+        ..UNSTARTED
+    },
+    // A wait that fails counts as a client: so one is served, and the one behind it is closed unserved, before the first, who is late, ends.
+    Row {
+        waits: &[0],
+        written: &["", REPLY],
+        ..WELL
     },
 ];
 
@@ -53,13 +93,13 @@ fn client(alloc: Global, is_late: bool) -> Result<MemConn, AllocError> {
 }
 
 fn edge_of(alloc: Global, row: &Row) -> Result<MemPollEdge, AllocError> {
-    let mut edge = MemEdge::new(alloc, Vec::new(alloc));
+    let mut edge = MemEdge::new(alloc, row.edge.to_vec(alloc)?);
     edge.add_acceptor(ADMIN, acceptor(alloc, CHANGES, 0, &[])?)?;
     let mut edge = MemPollEdge::new(alloc, edge, row.rings.to_vec(alloc)?);
     let mut coming = Vec::new(alloc);
     coming.push(client(alloc, true)?)?;
     coming.push(client(alloc, false)?)?;
-    edge.add_ring(DOOR, MemRing::new(alloc, coming, Vec::new(alloc)))?;
+    edge.add_ring(DOOR, MemRing::new(alloc, coming, row.waits.to_vec(alloc)?))?;
     Ok(edge)
 }
 
@@ -80,7 +120,7 @@ fn is_so<R: Wait + Threads + RandomSource + AllocGlobal + Clone + Drop + Send + 
     row: &Row,
 ) -> Result<bool, AllocError> {
     let mut edge = edge_of(alloc, row)?;
-    let mut crew = MemCrew::new(Vec::new(alloc));
+    let mut crew = MemCrew::new(row.starts.to_vec(alloc)?);
     let ran = run_over(
         rt,
         alloc,

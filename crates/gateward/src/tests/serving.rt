@@ -53,11 +53,13 @@ const NO_ROUTE: &str = "HTTP/1.1 404 Not Found\r\ncontent-length: 0\r\n\r\n";
 struct Row {
     // After how many accepts each job ends.
     conns: &'static str,
-    // The numbers of the calls of the edge, of the starts, of the writes of the sink, and of the accepts of the admin endpoint that fail.
+    // The numbers of the calls of the edge, of the starts, of the writes of the sink, and of the accepts of the admin endpoint and of the door
+    // that fail.
     edge: &'static [u64],
     starts: &'static [u64],
     writes: &'static [u64],
     accepts: &'static [u64],
+    door_accepts: &'static [u64],
     // How many clients come before to each of both, whose first read fails.
     broken: usize,
     code: u8,
@@ -73,6 +75,7 @@ const WELL: Row = Row {
     starts: &[],
     writes: &[],
     accepts: &[],
+    door_accepts: &[],
     broken: 0,
     code: 0,
     text: "{\"ready\":true}\n",
@@ -139,6 +142,28 @@ const ROWS: &[Row] = &[
         accepts: &[0],
         ..WELL
     },
+    // So does the second one, behind a client that was served.
+    Row {
+        conns: "2",
+        accepts: &[1],
+        ..WELL
+    },
+    // The same of the door.
+    Row {
+        door_accepts: &[0],
+        door: None,
+        ..WELL
+    },
+    Row {
+        conns: "2",
+        door_accepts: &[0],
+        ..WELL
+    },
+    Row {
+        conns: "2",
+        door_accepts: &[1],
+        ..WELL
+    },
     // Jobs go on behind connections that broke, and behind an accept that failed.
     Row {
         conns: "4",
@@ -175,7 +200,10 @@ pub(super) fn acceptor(
 fn edge_of(alloc: Global, row: &Row) -> Result<MemPollEdge, AllocError> {
     let mut edge = MemEdge::new(alloc, row.edge.to_vec(alloc)?);
     edge.add_acceptor(ADMIN, acceptor(alloc, CHANGES, row.broken, row.accepts)?)?;
-    edge.add_acceptor(DOOR, acceptor(alloc, REQUEST, row.broken, &[])?)?;
+    edge.add_acceptor(
+        DOOR,
+        acceptor(alloc, REQUEST, row.broken, row.door_accepts)?,
+    )?;
     Ok(MemPollEdge::new(alloc, edge, Vec::new(alloc)))
 }
 
