@@ -115,11 +115,12 @@ def build():
 
 
 def environment(command):
-    """The environment of a command: for the program, with what bin/gateward sets for its memory, which is nothing for `serve`."""
-    if command[0] != PROGRAM or command[1] == "serve":
+    """The environment of a command: for the program, with what bin/gateward sets for its memory."""
+    if command[0] != PROGRAM:
         return None
+    name = "serving=" if command[1] == "serve" else "memory="
     with open(os.path.join(TOP, "bin", "gateward")) as file:
-        memory = [text.rstrip()[len("memory="):] for text in file if text.startswith("memory=")]
+        memory = [text.rstrip()[len(name):] for text in file if text.startswith(name)]
     return {**os.environ, "GLIBC_TUNABLES": memory[0]}
 
 
