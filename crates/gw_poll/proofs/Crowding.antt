@@ -24,7 +24,7 @@ use Rattle.gw_poll.specs.Causes.{HasWaited}
 use Rattle.gw_poll.specs.Courses.{CanGoOn}
 use Rattle.gw_poll.specs.Crowds.{CanTurn, HasTurned, IsOpenAt, IsPolled, IsTurning, Lent, Passes, PollsOne, leaving, leaving_by, numbers_in, polled_of, staying, staying_by, taken}
 use Rattle.gw_poll.specs.declared.crowd.Crowd.{Crowd}
-use Rattle.gw_poll.specs.declared.crowd.Member.{Member}
+use Rattle.gw_poll.specs.Members.{Member}
 use Rattle.gw_poll.specs.declared.crowd.Parted.{Parted}
 use Rattle.gw_poll.proofs.Orders.{IsPermutation-rest, all_front, among_apart, among_without, or_true}
 use Rattle.gw_poll.proofs.Waiting.{either_map}
@@ -41,6 +41,9 @@ polled_later k u cx cx' t keeps polled = record {
   caught_up = polled.caught_up;
   used_up = polled.used_up;
   waits = pending_map t.answer (either_map (waited_later cx cx' _ _ _ keeps) (either_map (waited_later cx cx' _ _ _ keeps) (waited_later cx cx' _ _ _ keeps))) polled.waits;
+  idle = polled.idle;
+  over = polled.over;
+  unended = polled.unended;
   cause = polled.cause;
   refused = polled.refused;
 }

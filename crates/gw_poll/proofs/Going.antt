@@ -1,5 +1,5 @@
 -- How stretches of a history follow one another.
-use Rattle.std.proofs.Common.{◌≡◌, ℕ, ◌⊎◌, inl, inr, Bool, true, List, [], ◌∷◌, ◌++◌, map, Option, Some, None, IfSome, ap, refl, sym, ◌∙◌, append_assoc, append-nil, arith}
+use Rattle.std.proofs.Common.{◌≡◌, ◌≤◌, ℕ, ◌⊎◌, inl, inr, Bool, true, List, [], ◌∷◌, ◌++◌, map, length, Option, Some, None, IfSome, ap, refl, sym, subst, ◌∙◌, append_assoc, append-nil, arith}
 use Rattle.std.proofs.lemmas.List.{append_cancel_left}
 use Rattle.gw_link.proofs.PieceLemmas.{Gives-more, Gives-nothing, Takes-more, Takes-nothing}
 use Rattle.gw_link.specs.Exchanges.{Exchange}
@@ -14,7 +14,7 @@ use Rattle.gw_worker.specs.model.Sessions.{Part, Place}
 use Rattle.gw_worker.specs.model.Workers.{Worker}
 use Rattle.gw_poll.proofs.Counting.{faults_then, refused_all, refused_then}
 use Rattle.gw_poll.specs.Courses.{Follows, GivesUp, GoesTo}
-use Rattle.gw_poll.specs.Histories.{History, IsBroken, Went, bare, no_call}
+use Rattle.gw_poll.specs.Histories.{History, IsBroken, Went, bare, most_read, no_call}
 use Rattle.gw_poll.specs.declared.course.Course.{Course}
 
 bare_append : (xs ys : List Part) → map bare (xs ++ ys) ≡ map bare xs ++ map bare ys
@@ -29,6 +29,7 @@ went_self refuses p w h left o = record {
   came = [];
   fresh = [];
   bytes_are = sym (append-nil h.bytes);
+  few = inl refl;
   text_is = sym (append-nil h.text);
   parts_are = sym (append-nil h.parts);
   taken = Gives-nothing left;
@@ -62,6 +63,7 @@ went_kept refuses p w h left left' told told' x n unread unwritten = record {
   came = [];
   fresh = [];
   bytes_are = sym (append-nil h.bytes);
+  few = inl refl;
   text_is = sym (append-nil h.text);
   parts_are = sym (append-nil h.parts);
   taken = keeps_gives left left' unread;
@@ -110,6 +112,11 @@ told_then : (before met begun rest more : List Exchange) (x y z : Option (List E
 told_then before met begun rest more x y z is first second = λ earlier told.
     second (earlier ++ met) (first earlier told ∙ ap Some (ap (λ (l : List Exchange). earlier ++ l) (sym is) ∙ sym (append_assoc earlier met begun))) ∙ ap Some (append_assoc earlier met more)
 
+few_then : (before middle after : List ℕ) → (middle ≡ before) ⊎ (length middle ≤ most_read) → (after ≡ middle) ⊎ (length after ≤ most_read) → (after ≡ before) ⊎ (length after ≤ most_read)
+few_then before middle after (inl was) (inl same) = inl (same ∙ was)
+few_then before middle after (inr few) (inl same) = inr (subst (λ (l : List ℕ). length l ≤ most_read) (sym same) few)
+few_then before middle after first (inr few) = inr few
+
 -- One stretch and then another one.
 pub went_then : (first second wider : UpstreamCall → Socket → Type 0) (p : Place) (a b c : Worker) (h h1 h2 : History) (l l1 l2 : Option (List ℕ)) (o o1 o2 : Outside)
     → ((call : UpstreamCall) (to : Socket) → first call to → wider call to) → ((call : UpstreamCall) (to : Socket) → second call to → wider call to)
@@ -120,6 +127,7 @@ went_then first second wider p a b c h h1 h2 l l1 l2 o o1 o2 still later t u = r
   came = t.came ++ u.came;
   fresh = t.fresh ++ u.fresh;
   bytes_are = u.bytes_are ∙ ap (λ (x : List ℕ). x ++ u.read) t.bytes_are ∙ append_assoc h.bytes t.read u.read;
+  few = few_then h.bytes h1.bytes h2.bytes t.few u.few;
   text_is = u.text_is ∙ ap (λ (x : List ℕ). x ++ u.wrote) t.text_is ∙ append_assoc h.text t.wrote u.wrote;
   parts_are = u.parts_are ∙ ap (λ (x : List Part). x ++ u.came) t.parts_are ∙ append_assoc h.parts t.came u.came;
   taken = Gives-more l l1 l2 t.read u.read t.taken u.taken;
@@ -197,6 +205,7 @@ went_wider wider p a b h h' l l' o o' t = record {
   came = t.came;
   fresh = t.fresh;
   bytes_are = t.bytes_are;
+  few = t.few;
   text_is = t.text_is;
   parts_are = t.parts_are;
   taken = t.taken;

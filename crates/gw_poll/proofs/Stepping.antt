@@ -1,10 +1,11 @@
 -- What each step makes of a history.
-use Rattle.std.proofs.Common.{◌≡◌, inl, inr, ℕ, ◌+◌, ◌-◌, ◌≤◌, ◌==◌, Bool, true, false, List, [], ◌∷◌, ◌++◌, map, length, take, drop, Option, Some, None, Ok, Err, IfSome, ap, refl, sym, subst, ◌∙◌, append_assoc, append-nil, arith, take_all}
+use Rattle.std.proofs.Common.{◌≡◌, inl, inr, ℕ, ◌+◌, ◌-◌, ◌≤◌, ◌==◌, Bool, true, false, List, [], ◌∷◌, ◌++◌, map, length, take, drop, Option, Some, None, Ok, Err, IfSome, ap, refl, sym, subst, ◌∙◌, append_assoc, append-nil, length-append, arith, take_all}
 use Rattle.std.proofs.lemmas.List.{drop-drop, take-append-drop}
 use Rattle.gw_answers.specs.model.Decisions.{Action}
 use Rattle.gw_answers.specs.model.Messages.{is_head}
 use Rattle.gw_answers.specs.model.ServedRows.{ServedRow}
 use Rattle.gw_exchange.specs.Exchanged.{Exchanged as ExchangedTo, IsCallFault, IsRefused}
+use Rattle.gw_exchange.specs.declared.backend.TheConstants.{MOST_PIECE}
 use Rattle.gw_exchange.specs.declared.fault.ExchangeFault.TheVariants.{NoMemory}
 use Rattle.gw_frames.specs.Inlets.{StandsFor as InletStandsFor, is_over}
 use Rattle.gw_frames.specs.declared.ended.Ended.{Ended}
@@ -18,6 +19,8 @@ use Rattle.gw_link.specs.Pieces.{Gives, IsAtEnd, Keeps, Takes}
 use Rattle.gw_link.specs.declared.order.UpstreamCall.{UpstreamCall}
 use Rattle.gw_lists.proofs.Beginnings.{begins_with-self}
 use Rattle.gw_message_laws.proofs.Ends.{all_of_ended}
+use Rattle.gw_message_laws.proofs.Limits.{open_limit}
+use Rattle.gw_message_laws.specs.declared.requests.TheConstants.{MOST_OPEN_BYTES}
 use Rattle.gw_poll_exchange.specs.Polled.{GoesOn, IsOver, StandsFor as ExchangeStandsFor, TellsOn}
 use Rattle.gw_poll_exchange.specs.declared.polled.PolledExchange.{PolledExchange}
 use Rattle.gw_replies.specs.declared.fault.BackendFault.TheVariants as faults
@@ -40,7 +43,7 @@ use Rattle.gw_poll.proofs.Counting.{faults_answered}
 use Rattle.gw_poll.proofs.Going.{went_self}
 use Rattle.gw_poll.proofs.Unanswered.{own_exchanged, own_faults, own_refused}
 use Rattle.gw_poll.specs.Courses.{Follows, GivesUp, GoesTo, IsReplied, IsUnasked, StageStands, unwritten}
-use Rattle.gw_poll.specs.Histories.{History, IsBegun, IsSession, Went, bare}
+use Rattle.gw_poll.specs.Histories.{History, IsBegun, IsSession, Went, bare, most_read}
 use Rattle.gw_poll.specs.declared.course.Course.{Course}
 use Rattle.gw_poll.specs.declared.course.Stage.{Stage}
 use Rattle.gw_poll.specs.declared.course.Stage.TheVariants.{Turning, Reading, Writing, Exchanging}
@@ -72,6 +75,7 @@ goes_turn p a b s s' h turn f is k text over stage refuses left o =
         came = k.more;
         fresh = k.more;
         bytes_are = sym (append-nil h.bytes);
+        few = inl refl;
         text_is = sym (append-nil h.text);
         parts_are = refl;
         taken = Gives-nothing left;
@@ -113,6 +117,7 @@ goes_asked p a b s s' h to sent head x f is k next over same_to same_bytes same_
         came = [];
         fresh = k.more;
         bytes_are = sym (append-nil h.bytes);
+        few = inl refl;
         text_is = sym (append-nil h.text);
         parts_are = sym (append-nil h.parts);
         taken = Gives-nothing left;
@@ -185,6 +190,7 @@ went_written refuses p w h piece left left' told told' x n unread takes = record
   came = [];
   fresh = [];
   bytes_are = sym (append-nil h.bytes);
+  few = inl refl;
   text_is = refl;
   parts_are = sym (append-nil h.parts);
   taken = keeps_gives left left' unread;
@@ -266,6 +272,7 @@ went_begun refuses p w h begun' left written before after n n' told later = reco
   came = [];
   fresh = [];
   bytes_are = sym (append-nil h.bytes);
+  few = inl refl;
   text_is = sym (append-nil h.text);
   parts_are = sym (append-nil h.parts);
   taken = Gives-nothing left;
@@ -370,6 +377,7 @@ goes_answered p s s' h x a before after n n' refuses w left written f over cause
         came = part ∷ [];
         fresh = [];
         bytes_are = sym (append-nil h.bytes);
+        few = inl refl;
         text_is = sym (append-nil h.text);
         parts_are = refl;
         taken = Gives-nothing left;
@@ -458,13 +466,15 @@ abbrev pub read_more : History → List ℕ → History
 read_more h piece = record { bytes = h.bytes ++ piece; over = length piece == 0; parts = h.parts; met = h.met; asked = h.asked; begun = h.begun; text = h.text }
 
 went_read : (refuses : UpstreamCall → Socket → Type 0) (p : Place) (w : Worker) (h : History) (piece : List ℕ) (left left' told told' : Option (List ℕ)) (x : Option (List Exchange)) (n : ℕ)
-    → Gives left piece left' → ((length piece == 0) ≡ true → IsAtEnd left') → Keeps told told' → Went refuses p w w h (read_more h piece) left left' (outside told x n) (outside told' x n)
-went_read refuses p w h piece left left' told told' x n gives ends unwritten = record {
+    → length (h.bytes ++ piece) ≤ most_read → Gives left piece left' → ((length piece == 0) ≡ true → IsAtEnd left') → Keeps told told'
+    → Went refuses p w w h (read_more h piece) left left' (outside told x n) (outside told' x n)
+went_read refuses p w h piece left left' told told' x n few gives ends unwritten = record {
   read = piece;
   wrote = [];
   came = [];
   fresh = [];
   bytes_are = refl;
+  few = inr few;
   text_is = sym (append-nil h.text);
   parts_are = sym (append-nil h.parts);
   taken = gives;
@@ -495,16 +505,24 @@ hungry p s h f is = (
   subst (λ (st : Stage). StageStands st p h) is f.stage,
 )
 
+-- A connection of which bytes are read hasn't ended, so it has few of them, and a piece more is at most as many as are ever read.
+few_read : (p : Place) (s : Course) (h : History) (piece : List ℕ) → Follows p s h → s.stage ≡ Reading → is_over s.conn.inlet ≡ false → length piece ≤ MOST_PIECE → length (h.bytes ++ piece) ≤ most_read
+few_read p s h piece f is unfinished small =
+    let stands : StageStands Reading p h = (hungry p s h f is).1 in
+    let few : length h.bytes ≤ MOST_OPEN_BYTES =
+    open_limit h.bytes (map step_of h.parts) (subst (λ (b : Bool). IsAllOf h.bytes b h.parts) (sym f.over ∙ unfinished) stands.1) stands.2 in
+    omega (arith, few, small, length-append h.bytes piece)
+
 -- Further bytes are read.
 pub goes_read : (p : Place) (s s' : Course) (h : History) (piece : List ℕ) (left left' told told' : Option (List ℕ)) (refuses : UpstreamCall → Socket → Type 0) (w : Worker) (x : Option (List Exchange)) (n : ℕ)
-    → Follows p s h → s.stage ≡ Reading → s'.stage ≡ Turning
+    → Follows p s h → s.stage ≡ Reading → is_over s.conn.inlet ≡ false → length piece ≤ MOST_PIECE → s'.stage ≡ Turning
     → ((parts : List Part) (text : List ℕ) → StandsFor s.conn p h.bytes parts text → StandsFor s'.conn p (h.bytes ++ piece) parts text) → is_over s'.conn.inlet ≡ (length piece == 0)
     → Gives left piece left' → ((length piece == 0) ≡ true → IsAtEnd left') → Keeps told told' → GoesTo refuses p w w s' h left left' (outside told x n) (outside told' x n)
-goes_read p s s' h piece left left' told told' refuses w x n f is next fed over gives ends unwritten' =
+goes_read p s s' h piece left left' told told' refuses w x n f is unfinished small next fed over gives ends unwritten' =
     let c : StandsFor s.conn p h.bytes (h.parts ++ h.asked) h.text × StageStands Reading p h = hungry p s h f is in
     record {
       h' = read_more h piece;
-      went = went_read refuses p w h piece left left' told told' x n gives ends unwritten';
+      went = went_read refuses p w h piece left left' told told' x n (few_read p s h piece f is unfinished small) gives ends unwritten';
       follows = record {
         conn = subst (λ (t : List ℕ). StandsFor s'.conn p (h.bytes ++ piece) (h.parts ++ h.asked) t) (sym (ap (λ (st : Stage). h.text ++ unwritten st) next ∙ append-nil h.text)) (fed (h.parts ++ h.asked) h.text c.0);
         over = over;
@@ -556,12 +574,13 @@ gives_up_unread p s s' h left left' told told' refuses w x n f is at conn unread
 
 -- What was read couldn't be kept.
 pub gives_up_unfed : (p : Place) (s s' : Course) (h : History) (piece : List ℕ) (left left' told told' : Option (List ℕ)) (refuses : UpstreamCall → Socket → Type 0) (w : Worker) (x : Option (List Exchange)) (n : ℕ)
-    → Follows p s h → s.stage ≡ Reading → s.conn.stage ≡ IsReading → ((parts : List Part) (text : List ℕ) → StandsFor s.conn p h.bytes parts text → StandsFor s'.conn p h.bytes parts text) → s'.conn.rows ≡ s.conn.rows
+    → Follows p s h → s.stage ≡ Reading → s.conn.stage ≡ IsReading → is_over s.conn.inlet ≡ false → length piece ≤ MOST_PIECE
+    → ((parts : List Part) (text : List ℕ) → StandsFor s.conn p h.bytes parts text → StandsFor s'.conn p h.bytes parts text) → s'.conn.rows ≡ s.conn.rows
     → Gives left piece left' → ((length piece == 0) ≡ true → IsAtEnd left') → Keeps told told' → GivesUp refuses p w w s' h left left' (outside told x n) (outside told' x n)
-gives_up_unfed p s s' h piece left left' told told' refuses w x n f is at stands rows gives ends unwritten' =
+gives_up_unfed p s s' h piece left left' told told' refuses w x n f is at unfinished small stands rows gives ends unwritten' =
     let c : StandsFor s.conn p h.bytes (h.parts ++ h.asked) h.text × StageStands Reading p h = hungry p s h f is in
     gives_up_calm p s s' h (read_more h piece) left left' (outside told x n) (outside told' x n) refuses w f is at (stands (h.parts ++ h.asked) h.text c.0) rows
-    (went_read refuses p w h piece left left' told told' x n gives ends unwritten') (piece, refl) refl refl refl refl refl
+    (went_read refuses p w h piece left left' told told' x n (few_read p s h piece f is unfinished small) gives ends unwritten') (piece, refl) refl refl refl refl refl
 
 session_of : (p : Place) (c : Conn) (h : History) (end : Option Ended) → StandsFor c p h.bytes h.parts h.text → IsSettled c.stage → IsUnasked h → Exchanged p h.parts h.met
     → IsAllOf h.bytes h.over h.parts → ended (map step_of h.parts) ≡ end → IsSession p h c.rows end

@@ -1,12 +1,14 @@
 -- A crowd: connections of one worker, each with a number, that are polled one at a time.
-use Rattle.std.specs.Prelude.{◌≡◌, ◌≢◌, ◌⊎◌, ℕ, ◌+◌, ◌<◌, ◌≤◌, List, [], ◌∷◌, ◌++◌, length, map, drop, not, if◌then◌else◌, nat_eq, Option, Some, None, Result, All, AllPairs, Contains, IsPermutation, option_to_list}
+use Rattle.std.specs.Prelude.{◌≡◌, ◌≢◌, ◌⊎◌, ℕ, ◌+◌, ◌<◌, ◌≤◌, List, [], ◌∷◌, ◌++◌, length, map, drop, not, true, if◌then◌else◌, nat_eq, Option, Some, None, IfSome, Result, All, AllPairs, Contains, IsPermutation, option_to_list}
 use Rattle.std.specs.List.{filter, filter_map, IsDistinct}
 use Rattle.futures.specs.Poll.{OnPending}
 use Rattle.futures.specs.declared.task.Poll.{Poll}
 use Rattle.futures.specs.declared.task.Poll.TheVariants.{Ready, Pending}
 use Rattle.futures.specs.declared.task.context.Context.{Context}
 use Rattle.gw_frames.specs.declared.ended.Ended.{Ended}
+use Rattle.gw_frames.specs.Inlets.{is_over}
 use Rattle.gw_link.specs.Faults.{HasRisen}
+use Rattle.gw_link.specs.Pieces.{Keeps}
 use Rattle.gw_polling.specs.Polls.{HasNoMark, IfDone, IsUsedUp, OnFailed}
 use Rattle.gw_polling.specs.Rings.{is_among, without}
 use Rattle.gw_polling.specs.declared.poll_link.PollLink.{Ghosts as LinkWords}
@@ -17,11 +19,11 @@ use Rattle.gw_worker.specs.declared.serve.ConnFault.{ConnFault}
 use Rattle.gw_worker.specs.model.Sessions.{Place}
 use Rattle.gw_worker.specs.model.Workers.{Worker}
 use Rattle.gw_poll.specs.Causes.{CountsRefusedIn, HasCause, HasWaited, IfFailed, OnGoing}
-use Rattle.gw_poll.specs.Courses.{CanGoOn, Follows, GivesUp, GoesTo}
+use Rattle.gw_poll.specs.Courses.{CanGoOn, Follows, GivesUp, GoesTo, IsIdle}
 use Rattle.gw_poll.specs.Histories.{History, IsSession, no_history}
+use Rattle.gw_poll.specs.Members.{Member}
 use Rattle.gw_poll.specs.declared.conn_future.ConnFuture.{ConnFuture}
 use Rattle.gw_poll.specs.declared.crowd.Crowd.{Crowd}
-use Rattle.gw_poll.specs.declared.crowd.Member.{Member}
 use Rattle.gw_poll.specs.declared.crowd.Parted.{Parted}
 
 -- One poll of a connection: its number, the connection and the worker before it and behind it, and the answer.
@@ -52,6 +54,10 @@ module _ {K U : Type 0} (k : LinkWords K) (u : UpstreamWords U) where
     pub waits : OnPending t.answer (HasWaited cx (k.source t.after.link) (k.read_waits t.before.link) (k.read_waits t.after.link)
         ⊎ (HasWaited cx (k.source t.after.link) (k.write_waits t.before.link) (k.write_waits t.after.link)
         ⊎ HasWaited cx (u.source t.after.up) (u.waits t.before.up) (u.waits t.after.up)))
+    pub idle : OnPending t.answer (HasNoMark (k.marks t.before.link) → HasNoMark (u.marks t.before.up) → IsIdle t.after.course)
+    pub over : OnGoing t.answer (is_over t.after.course.conn.inlet ≡ true
+        → (is_over t.before.course.conn.inlet ≡ true) ⊎ IfSome (k.end t.before.link) (λ told. IfSome (k.end t.after.link) (λ has_end. has_end ≡ true)))
+    pub unended : Keeps (k.end t.before.link) (k.end t.after.link)
     pub cause : IfFailed t.answer (HasCause (k.faults t.before.link) (k.faults t.after.link))
     pub refused : CountsRefusedIn t.answer t.w.pass.refused t.w'.pass.refused
 

@@ -1,6 +1,7 @@
 -- What a polled connection has come to over all its polls, and how one poll continues that.
-use Rattle.std.specs.Prelude.{◌≡◌, ℕ, ◌⊎◌, Bool, true, false, List, [], ◌∷◌, ◌++◌, map, take, Option, None, IfSome}
+use Rattle.std.specs.Prelude.{◌≡◌, ℕ, ◌⊎◌, ◌+◌, ◌≤◌, Bool, true, false, List, [], ◌∷◌, ◌++◌, length, map, take, Option, None, IfSome}
 use Rattle.gw_answers.specs.model.ServedRows.{ServedRow}
+use Rattle.gw_exchange.specs.declared.backend.TheConstants.{MOST_PIECE}
 use Rattle.gw_frames.specs.Inlets.{StandsFor as InletStandsFor}
 use Rattle.gw_frames.specs.declared.ended.Ended.{Ended}
 use Rattle.gw_frames.specs.declared.inlet.Inlet.{Inlet}
@@ -8,6 +9,7 @@ use Rattle.gw_frames.specs.model.Requests.{Step, ended}
 use Rattle.gw_link.specs.Exchanges.{Exchange}
 use Rattle.gw_link.specs.Pieces.{Gives, IsAtEnd, Takes}
 use Rattle.gw_link.specs.declared.order.UpstreamCall.{UpstreamCall}
+use Rattle.gw_message_laws.specs.declared.requests.TheConstants.{MOST_OPEN_BYTES}
 use Rattle.gw_poll_exchange.specs.Polled.{TellsOn}
 use Rattle.gw_snap.specs.Lists.{BeginsWith}
 use Rattle.gw_text.specs.model.Addresses.{Socket}
@@ -49,16 +51,21 @@ bare (a_refused code) = a_refused code
 bare a_close = a_close
 bare a_cut = a_cut
 
--- A history goes on: further bytes are read and further ones written; more came of the bytes and has its reply; `fresh` is what came in
--- this stretch, each request of it decided by the worker; what is exchanged stands where it stood, or behind it, whatever the upstream
--- tells in front of what was begun; and as many calls of the upstream failed at least as there are new rows with such a fault, each at its
--- row's socket.
+-- The most bytes that are ever read of a connection: as many as one may have that hasn't ended, and one piece.
+abbrev pub most_read : ℕ
+most_read = MOST_OPEN_BYTES + MOST_PIECE
+
+-- A history goes on: further bytes are read, of which all together are few, and further ones written; more came of the bytes and has its
+-- reply; `fresh` is what came in this stretch, each request of it decided by the worker; what is exchanged stands where it stood, or behind
+-- it, whatever the upstream tells in front of what was begun; and as many calls of the upstream failed at least as there are new rows with
+-- such a fault, each at its row's socket.
 pub record Went (refuses : UpstreamCall → Socket → Type 0) (p : Place) (w w' : Worker) (h h' : History) (left left' : Option (List ℕ)) (o o' : Outside) : Type 0 where
   pub read : List ℕ
   pub wrote : List ℕ
   pub came : List Part
   pub fresh : List Part
   pub bytes_are : h'.bytes ≡ h.bytes ++ read
+  pub few : (h'.bytes ≡ h.bytes) ⊎ (length h'.bytes ≤ most_read)
   pub text_is : h'.text ≡ h.text ++ wrote
   pub parts_are : h'.parts ≡ h.parts ++ came
   pub taken : Gives left read left'

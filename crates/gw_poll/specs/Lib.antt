@@ -2,4 +2,5 @@ pub mod Histories
 pub mod Courses
 pub mod Causes
 pub mod Alones
+pub mod Members
 pub mod Crowds

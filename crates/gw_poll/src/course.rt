@@ -157,6 +157,7 @@ impl Course {
         requires reading { self.old.stage ≡ Stage.Reading }
         requires going { (bytes : List ℕ) × IsGoing self.old bytes }
         requires any { 0 < length buffer.old }
+        requires few { length buffer.old ≤ MOST_PIECE }
         ensures goes { OnGoing result ((w : PlainWorker) (p : Place) (h : History) (x : Option (List Exchange)) (f : ℕ) → Follows p self.old h
             → GoesTo no_call p w w self.new h (K.left link.old) (K.left link.new) (outside (K.written link.old) x f) (outside (K.written link.new) x f)) }
         ensures broke { OnFailed result ((w : PlainWorker) (p : Place) (h : History) (x : Option (List Exchange)) (f : ℕ) → Follows p self.old h

@@ -5,6 +5,7 @@ ghost use Rattle.gw_polling.specs.Rings.{is_among};
 ghost use Rattle.gw_snap.specs.Lists.{BeginsWith};
 ghost use Rattle.gw_poll.specs.Courses.{CanGoOn};
 ghost use Rattle.gw_worker.specs.model.Workers.{Worker as PlainWorker};
+ghost use Rattle.gw_poll.specs.Members.{Member as PlainMember};
 ghost use Rattle.gw_poll.specs.Crowds.{AdmitsOne, CanTurn, HasTurned, IsFull, IsOpenAt, IsTurning, PollsOne, numbers_of};
 
 use crate::conn_future::ConnFuture;
@@ -14,15 +15,24 @@ use gw_polling::{Numbers, PollLink, PollUpstream};
 use gw_text::NoMemory;
 use gw_worker::{ConnFault, Served, Worker};
 use std::alloc::Global;
+use std::marker::Model;
 
 /// The most connections that a crowd has open.
 pub const MOST_OPEN: usize = 256;
 
-/// An open connection, and its number.
+/// An open connection and its number. It stands behind a handle, so that a poll doesn't move it.
 #[derive(Drop)]
 pub(crate) struct Member<K, U> {
-    pub(crate) number: u64,
-    pub(crate) conn: ConnFuture<K, U>,
+    number: u64,
+    conn: Box<ConnFuture<K, U>>,
+}
+
+impl<K, U> Model for Member<K, U> {
+    ghost use Rattle.gw_poll.specs.Members.{Member as Plain};
+
+    ghost Value = { Plain K U };
+
+    ghost view = { λ m. record { number = m.number; conn = m.conn.value } };
 }
 
 /// A connection that has ended or was given up, with what it came to.
@@ -107,9 +117,20 @@ impl<K: PollLink, U: PollUpstream> Crowd<K, U> {
             let cause = Cause::NoMemory;
             return Err(Refused { link, up, cause });
         }
-        let conn = ConnFuture::new(self.alloc, self.door, link, up);
-        self.members.push_reserved(Member { number, conn });
-        Ok(())
+        match Box::new(self.alloc, ConnFuture::new(self.alloc, self.door, link, up)) {
+            Ok(conn) => {
+                self.members.push_reserved(Member { number, conn });
+                Ok(())
+            }
+            Err(failed) => {
+                let (_, link, up) = failed.value.into_parts();
+                Err(Refused {
+                    link,
+                    up,
+                    cause: Cause::NoMemory,
+                })
+            }
+        }
     }
 
     /// Polls each open connection that is named, in the order of the list, and each once. A number that isn't open is passed over. Where
@@ -145,7 +166,7 @@ impl<K: PollLink, U: PollUpstream> Crowd<K, U> {
         requires open_at { All (IsOpenAt U.PollUpstream self.old.door) self.old.members.items }
         requires waiting_room { vec_len waiting.old + length self.old.members.items ≤ vec_capacity waiting.old }
         requires gone_room { vec_len gone.old + length self.old.members.items ≤ vec_capacity gone.old }
-        ensures turns { (first : PlainWorker) (before : Items (Member K U)) (named : Items ℕ) (done : ℕ) → drop done named ≡ number ∷ drop (done + 1) named
+        ensures turns { (first : PlainWorker) (before : Items (PlainMember K U)) (named : Items ℕ) (done : ℕ) → drop done named ≡ number ∷ drop (done + 1) named
             → IsTurning K.PollLink U.PollUpstream cx.old self.old.door first self.old.worker before self.old.members.items waiting.old.items gone.old.items named done
             → IsTurning K.PollLink U.PollUpstream cx.new self.old.door first self.new.worker before self.new.members.items waiting.new.items gone.new.items named (done + 1) }
         ensures waiting_room { vec_capacity waiting.new ≡ vec_capacity waiting.old }
@@ -187,7 +208,7 @@ fn poll_one<K: PollLink, U: PollUpstream>(
     match conn.poll(w, cx) {
         Poll::Pending => waiting.push_reserved(Member { number, conn }),
         Poll::Ready(result) => {
-            let (rows, link, up) = conn.into_parts();
+            let (rows, link, up) = Box::into_inner(conn).into_parts();
             gone.push_reserved(Parted {
                 number,
                 rows,
@@ -201,7 +222,7 @@ fn poll_one<K: PollLink, U: PollUpstream>(
 
 // The place of the member with this number.
 fn place_of<K, U>(members: &[Member<K, U>], number: u64) -> Option<usize>
-    ensures found { IfSome result (λ at. (at < length members.now) × ((other : Member K U) → (slice_index_or members.now at other).number ≡ number)) }
+    ensures found { IfSome result (λ at. (at < length members.now) × ((other : PlainMember K U) → (slice_index_or members.now at other).number ≡ number)) }
     ensures none { result ≡ None → list_any (λ member. member.number == number) members.now ≡ false }
 {
     'members: for (at, member) in members.iter().enumerate() {

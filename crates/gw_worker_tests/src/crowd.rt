@@ -46,7 +46,7 @@ impl<K: PollLink, U: PollUpstream> Future for Turn<K, U> {
 // How many connections there are, each with the number of its place and this much more.
 const CONNECTIONS: u64 = 64;
 
-const FIRST: u64 = 1_000;
+pub(crate) const FIRST: u64 = 1_000;
 
 // The numbers of calls before which a connection isn't ready.
 fn marks(words: &mut Pcg32) -> Calls {
@@ -66,8 +66,8 @@ fn drawn(alloc: Global, words: &mut Pcg32) -> Result<Numbers, NoMemory> {
     Ok(numbers)
 }
 
-// The crowd with these connections, under the numbers from the first one on, and the number behind them. None: one isn't admitted.
-fn opened<K: PollLink, U: PollUpstream>(
+/// The crowd with these connections, under the numbers from the first one on, and the number behind them. None: one isn't admitted.
+pub(crate) fn opened<K: PollLink, U: PollUpstream>(
     crowd: Crowd<K, U>,
     conns: Vec<(K, U)>,
 ) -> Option<(Crowd<K, U>, u64)>
@@ -88,6 +88,24 @@ fn opened<K: PollLink, U: PollUpstream>(
     Some((crowd, next))
 }
 
+/// Polls those that are named, and gives back the crowd and what the turn answered.
+pub(crate) fn turn_of<K: PollLink, U: PollUpstream>(
+    task: &MockTask,
+    crowd: Crowd<K, U>,
+    ready: Numbers,
+) -> Option<(Crowd<K, U>, Result<Gone<K, U>, NoMemory>)>
+    requires { CanTurn U.PollUpstream crowd }
+    ensures { IfSome result (λ t. CanTurn U.PollUpstream t.0) }
+{
+    let mut turn = Turn {
+        both: Some((crowd, ready)),
+    };
+    match task.poll(&mut turn) {
+        Poll::Ready(answer) => Some(answer),
+        Poll::Pending => None,
+    }
+}
+
 // Polls those of drawn numbers, and gives back the crowd and those that ended.
 fn turned<K: PollLink, U: PollUpstream>(
     alloc: Global,
@@ -98,17 +116,10 @@ fn turned<K: PollLink, U: PollUpstream>(
     requires { CanTurn U.PollUpstream crowd }
     ensures { IfOk result (λ t. CanTurn U.PollUpstream t.0) }
 {
-    let ready = drawn(alloc, words)?;
-    let mut turn = Turn {
-        both: Some((crowd, ready)),
+    let Some((crowd, gone)) = turn_of(task, crowd, drawn(alloc, words)?) else {
+        return Err(Fail::from("a turn is made"));
     };
-    match task.poll(&mut turn) {
-        Poll::Ready(answer) => {
-            let (crowd, gone) = answer;
-            Ok((crowd, gone?))
-        }
-        Poll::Pending => Err(Fail::from("a turn is made")),
-    }
+    Ok((crowd, gone?))
 }
 
 // Those that ended in so many turns, and how many are open then.

@@ -17,4 +17,6 @@ mod server;
 #[cfg(test)]
 mod stage;
 #[cfg(test)]
+mod starved;
+#[cfg(test)]
 mod untold;

@@ -17,7 +17,9 @@ use std::random::RandomSource;
 use std::sync::Wait;
 use std::test::*;
 
-const ONE_SERVED: &str = r"200 Closed|HTTP/1.1 200 OK\r\ncontent-length: 13\r\n\r\n10.0.0.1:8080";
+/// What comes of one request.
+pub(crate) const ONE_SERVED: &str =
+    r"200 Closed|HTTP/1.1 200 OK\r\ncontent-length: 13\r\n\r\n10.0.0.1:8080";
 
 /// The numbers of the reads, of the writes and of the calls of the backend that fail, or before which it isn't ready.
 pub(crate) type Calls = [u64; 3];

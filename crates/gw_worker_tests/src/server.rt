@@ -33,23 +33,30 @@ pub(crate) struct Server<R: Wait + Drop> {
     ghost door: { 0 < length worker.pass.fixed.0 },
 }
 
+/// No worker could be opened.
+#[derive(Clone, Copy, Debug, PartialEq, Eq)]
+pub(crate) struct Unopened;
+
 /// A worker whose tables have a door.
-pub(crate) fn worker_over(alloc: Global, pass: Pass<Tables>) -> Result<Worker, Fail>
+pub(crate) fn worker_over(alloc: Global, pass: Pass<Tables>) -> Result<Worker, Unopened>
     ensures door { IfOk result (λ worker. 0 < length worker.pass.fixed.0) }
     ensures book { IfOk result (λ worker. worker.pass.book ≡ pass.book) }
 {
     let mut pass = pass;
-    if pass.read()?.value.doors() == 0 {
-        return Err(Fail::from("there is a door"));
+    match pass.read() {
+        Ok(reading) if reading.value.doors() > 0 => Ok(Worker::new(alloc, pass)),
+        _ => Err(Unopened),
     }
-    Ok(Worker::new(alloc, pass))
 }
 
 /// One door.
-pub(crate) fn doors(alloc: Global) -> Result<Doors, Fail> {
+pub(crate) fn doors(alloc: Global) -> Result<Doors, Unopened> {
+    let Ok(door) = Door::parse(alloc, "default/g:80=127.0.0.1:18080") else {
+        return Err(Unopened);
+    };
     let mut doors = Vec::new(alloc);
-    doors.push(Door::parse(alloc, "default/g:80=127.0.0.1:18080")?)?;
-    Ok(Doors::new(alloc, doors)?)
+    doors.push(door).ok().ok_or(Unopened)?;
+    Doors::new(alloc, doors).ok().ok_or(Unopened)
 }
 
 /// Takes and publishes the changes.
@@ -57,31 +64,37 @@ pub(crate) fn publish_all<R: Wait + Drop, W: Wait>(
     rt: &W,
     controller: &mut Controller<R>,
     events: &[&str],
-) -> Result<(), Fail> {
+) -> Result<(), Unopened> {
     'events: for event in events {
-        if controller.change(event.as_bytes(), Second(0))? != Outcome::Accepted {
-            return Err(Fail::from("an event is a change"));
-        }
+        let Ok(Outcome::Accepted) = controller.change(event.as_bytes(), Second(0)) else {
+            return Err(Unopened);
+        };
     }
-    drop(controller.publish(rt)?);
-    Ok(())
+    match controller.publish(rt) {
+        Ok(_) => Ok(()),
+        Err(_) => Err(Unopened),
+    }
 }
 
 impl<R: Wait + Drop> Server<R> {
     /// One over a controller that took no change.
-    pub(crate) fn open(alloc: Global, rt: R) -> Result<Server<R>, Fail> {
-        let name = Text::of(alloc, "gateward.example/controller")?;
+    pub(crate) fn open(alloc: Global, rt: R) -> Result<Server<R>, Unopened> {
+        let Ok(name) = Text::of(alloc, "gateward.example/controller") else {
+            return Err(Unopened);
+        };
         let mut faults = SnapFaults::new();
-        let (controller, mut passes) = Controller::open(
+        let Ok((controller, mut passes)) = Controller::open(
             alloc,
             rt,
             &mut faults,
             doors(alloc)?,
             name,
             2,
-        )?;
+        ) else {
+            return Err(Unopened);
+        };
         let (Some(one), Some(other)) = (passes.take(), passes.take()) else {
-            return Err(Fail::from("there are two passes"));
+            return Err(Unopened);
         };
         Ok(Server {
             controller,
@@ -91,7 +104,7 @@ impl<R: Wait + Drop> Server<R> {
     }
 
     /// One over a worker that has all events to see.
-    pub(crate) fn new<W: Wait>(alloc: Global, rt: R, waits: &W) -> Result<Server<R>, Fail> {
+    pub(crate) fn new<W: Wait>(alloc: Global, rt: R, waits: &W) -> Result<Server<R>, Unopened> {
         let mut server = Server::open(alloc, rt)?;
         publish_all(waits, &mut server.controller, EVENTS)?;
         Ok(server)

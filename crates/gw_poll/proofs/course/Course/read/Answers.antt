@@ -1,7 +1,8 @@
 -- What is read is taken.
-use Rattle.std.proofs.Common.{◌≡◌, ◌∙◌, ◌==◌, ℕ, Ok, ap, length, refl, sym, take, arith}
+use Rattle.std.proofs.Common.{◌≡◌, ◌≤◌, ◌∙◌, ◌==◌, ℕ, Ok, ap, length, refl, sym, take, arith}
 use Rattle.std.proofs.lemmas.List.{length-take-le}
 use Rattle.futures.specs.declared.task.Poll.TheVariants.{Ready}
+use Rattle.gw_exchange.specs.declared.backend.TheConstants.{MOST_PIECE}
 use Rattle.gw_worker.proofs.Linking.{empty_size}
 use Rattle.gw_poll.proofs.Going.{goes_kept}
 use Rattle.gw_poll.proofs.Keeping.{done_at, done_both, failed_map, going_done, hungry_at, if_done_both}
@@ -12,8 +13,10 @@ use Rattle.gw_poll.proofs.course.Course.read.Goals as goal
 pub returns-in-Ready-Ok-clause-goes : goal.returns-in-Ready-Ok-clause-goes
 returns-in-Ready-Ok-clause-goes g c =
     let within = rw c.in-Ready-Ok.field-0-is at c.in-Ready-Ok.ensures.within in
+    let unfinished = (hungry_at c.args.self.now c.requires.going.0 c.requires.going.1 c.requires.reading).1.0 in
+    let small : length (take c.in-Ready-Ok.size c.poll_read.new.buf) ≤ MOST_PIECE = omega (arith, within, length-take-le c.in-Ready-Ok.size c.poll_read.new.buf within, c.poll_read.auto.buf, c.requires.few) in
     going_done c.take.result c.take.ensures.ready (λ all w p h x n f.
-    goes_read p c.args.self.now c.take.new.self h (take c.in-Ready-Ok.size c.poll_read.new.buf) _ _ _ _ no_call w x n f c.requires.reading all.1.0 (λ parts text. all.0 p h.bytes parts text) all.1.1
+    goes_read p c.args.self.now c.take.new.self h (take c.in-Ready-Ok.size c.poll_read.new.buf) _ _ _ _ no_call w x n f c.requires.reading unfinished small all.1.0 (λ parts text. all.0 p h.bytes parts text) all.1.1
     (rw c.in-Ready-Ok.field-0-is at c.in-Ready-Ok.ensures.gives)
     (λ over. (c.poll_read.ensures.ends (c.in-Ready-Ok.is ∙ ap Ready (c.in-Ready-Ok.field-0-is ∙ ap Ok (empty_size c.in-Ready-Ok.size c.poll_read.new.buf within over)))).0) c.poll_read.ensures.unwritten)
     (done_both _ _ c.take.result c.take.ensures.fed (done_both _ _ c.take.result c.take.ensures.stage c.take.ensures.over))
@@ -21,9 +24,11 @@ returns-in-Ready-Ok-clause-goes g c =
 pub returns-in-Ready-Ok-clause-broke : goal.returns-in-Ready-Ok-clause-broke
 returns-in-Ready-Ok-clause-broke g c =
     let within = rw c.in-Ready-Ok.field-0-is at c.in-Ready-Ok.ensures.within in
+    let hungry = hungry_at c.args.self.now c.requires.going.0 c.requires.going.1 c.requires.reading in
+    let small : length (take c.in-Ready-Ok.size c.poll_read.new.buf) ≤ MOST_PIECE = omega (arith, within, length-take-le c.in-Ready-Ok.size c.poll_read.new.buf within, c.poll_read.auto.buf, c.requires.few) in
     failed_map c.take.result (λ stands w p h x n f.
     gives_up_unfed p c.args.self.now c.take.new.self h (take c.in-Ready-Ok.size c.poll_read.new.buf) _ _ _ _ no_call w x n f c.requires.reading
-    (hungry_at c.args.self.now c.requires.going.0 c.requires.going.1 c.requires.reading).0 (λ parts text. stands p h.bytes parts text) c.take.ensures.rows
+    hungry.0 hungry.1.0 small (λ parts text. stands p h.bytes parts text) c.take.ensures.rows
     (rw c.in-Ready-Ok.field-0-is at c.in-Ready-Ok.ensures.gives)
     (λ over. (c.poll_read.ensures.ends (c.in-Ready-Ok.is ∙ ap Ready (c.in-Ready-Ok.field-0-is ∙ ap Ok (empty_size c.in-Ready-Ok.size c.poll_read.new.buf within over)))).0) c.poll_read.ensures.unwritten)
     c.take.ensures.err

@@ -3,7 +3,7 @@ use Rattle.std.proofs.Common.{◌∙◌, ◌∷◌, ap, refl, subst, sym, IsPerm
 use Rattle.std.proofs.lemmas.List.Sorted.{IsPermutation-swap_remove}
 use Rattle.gw_poll.proofs.Crowding.{among_members, turns_more, turns_past}
 use Rattle.gw_poll.specs.Courses.{CanGoOn}
-use Rattle.gw_poll.specs.declared.crowd.Member.{Member}
+use Rattle.gw_poll.specs.Members.{Member}
 use Rattle.gw_poll.proofs.crowd.Crowd.poll_named.Goals as goal
 
 pub poll_one-requires-clause-going : goal.poll_one-requires-clause-going
