@@ -8,6 +8,51 @@ import tempfile
 TOP = os.path.dirname(os.path.dirname(os.path.abspath(__file__)))
 
 
+# Of a program: a class, a Gateway with one listener and its door, the lines of a Route with a hostname of its own, of a Service and of a slice with one
+# address, and a world that takes a line.
+OBJECTS = r"""const CLASS: &str =
+    r#"{"type":"ADDED","object":{"apiVersion":"gateway.networking.k8s.io/v1","kind":"GatewayClass","metadata":{"name":"c"},"spec":{"controllerName":"gateward.example/controller"}}}"#;
+
+const GATEWAY: &str =
+    r#"{"type":"ADDED","object":{"apiVersion":"gateway.networking.k8s.io/v1","kind":"Gateway","metadata":{"name":"g"},"spec":{"gatewayClassName":"c","listeners":[{"name":"http","port":80,"protocol":"HTTP"}]}}}"#;
+
+const CONTROLLER: &str = "gateward.example/controller";
+
+fn route(alloc: Global, number: u32, service: u32, path: u32) -> Result<String, NoMemory> {
+    format!(in alloc;
+        r#"{{"type":"ADDED","object":{{"apiVersion":"gateway.networking.k8s.io/v1","kind":"HTTPRoute","metadata":{{"name":"r{number}"}},"spec":{{"hostnames":["h{number}.example.com"],"parentRefs":[{{"name":"g"}}],"rules":[{{"backendRefs":[{{"name":"s{service}","port":80}}],"matches":[{{"path":{{"value":"/p{path}"}}}}]}}]}}}}}}"#
+    )
+}
+
+fn service(alloc: Global, number: u32) -> Result<String, NoMemory> {
+    format!(in alloc;
+        r#"{{"type":"ADDED","object":{{"apiVersion":"v1","kind":"Service","metadata":{{"name":"s{number}"}},"spec":{{"ports":[{{"port":80}}]}}}}}}"#
+    )
+}
+
+fn slice(alloc: Global, number: u32, address: u32) -> Result<String, NoMemory> {
+    format!(in alloc;
+        r#"{{"type":"ADDED","object":{{"apiVersion":"discovery.k8s.io/v1","kind":"EndpointSlice","metadata":{{"name":"s{number}-a","labels":{{"kubernetes.io/service-name":"s{number}"}}}},"addressType":"IPv4","ports":[{{"port":8080}}],"endpoints":[{{"addresses":["10.0.0.{address}"]}}]}}}}"#
+    )
+}
+
+fn put(alloc: Global, world: &mut World, line: &str) -> Option<()> {
+    let Ok(Read::Change(event)) = read_event(alloc, line.as_bytes()) else {
+        return None;
+    };
+    world.check(&event).ok()?;
+    world.reserve().ok()?;
+    world.put(event, Second(0));
+    Some(())
+}
+
+fn doors(alloc: Global) -> Option<Doors> {
+    let mut doors = Vec::new(alloc);
+    doors.push(Door::parse(alloc, "default/g:80=127.0.0.1:18080").ok()?).ok()?;
+    Doors::new(alloc, doors).ok()
+}
+"""
+
 # A function of a program: the table of the first door in a world.
 FIRST_TABLE = r"""// The table of the first door.
 fn first_table(alloc: Global, world: &World, doors: &Doors, controller: &Text) -> Result<Option<DoorTable>, NoMemory> {

@@ -24,8 +24,8 @@ use gw_snap::OpenFault;
 use gw_text::{List, NoMemory, Socket, Text};
 use std::alloc::Global;
 
-/// The most bytes that one read is asked for.
-const MOST_PIECE: usize = 65_536;
+/// The most bytes that one read is asked for: a head, and 64 KiB of its body.
+const MOST_PIECE: usize = 81_920;
 
 /// A connection that was served to its end.
 #[derive(Drop)]
