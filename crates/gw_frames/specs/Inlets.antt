@@ -9,12 +9,12 @@ use Rattle.gw_frames.specs.declared.inlet.Stage.{Stage}
 use Rattle.gw_frames.specs.declared.inlet.Stage.TheVariants.{Head, Body as Reads, Closing, Done}
 use Rattle.gw_frames.specs.declared.step.Step.{Step}
 use Rattle.gw_frames.specs.declared.step.Step.TheVariants as steps
-use Rattle.gw_messages.specs.Readings.{Comes}
+use Rattle.gw_messages.specs.Readings.{Comes, missing as missing_of}
 
 -- The step of the definitions, or none where more bytes are needed.
 abbrev pub given : Step → List Plain
 given steps.Need = []
-given (steps.Ask r) = an_ask r ∷ []
+given (steps.Ask r) = an_ask r.value ∷ []
 given steps.Continue = a_continue ∷ []
 given (steps.Bad code) = a_refusal code ∷ []
 given steps.End = an_end ∷ []
@@ -62,6 +62,13 @@ left_at Head count = 2 * (1000 - count)
 left_at (Reads o r) count = 2 * (1000 - count) - 1
 left_at (Closing why) count = 0
 left_at (Done why) count = 0
+
+-- How many bytes haven't come of the body that is read at a stage, where its size was announced.
+abbrev pub missing_at : Stage → List ℕ → ℕ
+missing_at Head buffer = 0
+missing_at (Reads o r) buffer = missing_of r buffer
+missing_at (Closing why) buffer = 0
+missing_at (Done why) buffer = 0
 
 -- How many requests and answers 100 an inlet may still give.
 abbrev pub steps_left : Inlet → ℕ

@@ -46,7 +46,7 @@ enum Stage {
 }
 
 impl Inlet {
-    ghost use Rattle.gw_frames.specs.Inlets.{ended_by, fresh, given, given_some, Goes, is_over, IsAll, IsFewer, IsLast, IsReads, IsStill, last_step, stage_behind, StandsFor, steps_left, with_step};
+    ghost use Rattle.gw_frames.specs.Inlets.{ended_by, fresh, given, given_some, Goes, is_over, IsAll, IsFewer, IsLast, IsReads, IsStill, last_step, missing_at, stage_behind, StandsFor, steps_left, with_step};
     ghost use Rattle.gw_frames.specs.declared.step.Step.{Step as Stepped};
     ghost use Rattle.gw_messages.specs.Readings.{Comes, IsProgress, Leads};
     ghost use Rattle.gw_messages.specs.Searches.{IsFound};
@@ -117,6 +117,18 @@ impl Inlet {
         ensures { (bytes : List ℕ) (steps : List Plain) → StandsFor self.now bytes steps → result ≡ ended steps }
     {
         self.stage.ended()
+    }
+
+    /// How many bytes are missing of the body that is read, where its size was announced; else 0.
+    pub fn missing(&self) -> usize
+        ensures { result ≡ missing_at self.now.stage self.now.buffer }
+    {
+        match &self.stage {
+            Stage::Body(_, reading) => reading.missing(&self.buffer),
+            Stage::Head => 0,
+            Stage::Closing(_) => 0,
+            Stage::Done(_) => 0,
+        }
     }
 
     // Whether a head or a body comes next that isn't whole, and more bytes may come. Asked first, it spares the large results of what follows.

@@ -55,8 +55,9 @@ fn open(alloc: Global, head: Head, target: &Uri) -> Result<Opening, NoMemory>
     let framed = is_framed(head.fields.as_slice());
     let size = size_of(head.fields.as_slice(), framed);
     let expects = expects(&head, size);
+    let request = request_of(alloc, head, target, framed)?;
     Ok(Opening {
-        request: request_of(alloc, head, target, framed)?,
+        request: Box::new(alloc, request)?,
         size,
         expects,
     })

@@ -7,8 +7,8 @@ use std::marker::Model;
 /// A request whose body hasn't been read.
 #[derive(Drop)]
 pub struct Opening {
-    /// The request with an empty body.
-    pub request: Request,
+    /// The request with an empty body, where it stays until it is given.
+    pub request: Box<Request>,
     /// How many bytes the body has; none where it is chunked.
     pub size: Option<usize>,
     /// Whether the request waits for the answer 100.
@@ -20,15 +20,15 @@ impl Model for Opening {
 
     ghost Value = { Plain };
 
-    ghost view = { λ o. record { request = o.request; size = o.size; expects = o.expects } };
+    ghost view = { λ o. record { request = o.request.value; size = o.size; expects = o.expects } };
 }
 
 impl Opening {
     ghost use Rattle.gw_frames.specs.model.Requests.{whole_request};
 
     /// The request with its body.
-    pub fn whole(self, body: Vec<u8>) -> Request
-        ensures { result ≡ whole_request self body.items }
+    pub fn whole(self, body: Vec<u8>) -> Box<Request>
+        ensures { result.value ≡ whole_request self body.items }
     {
         let Opening { request, .. } = self;
         let mut request = request;

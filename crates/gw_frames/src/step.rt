@@ -5,8 +5,8 @@ use crate::request::Request;
 pub enum Step {
     /// Nothing until more bytes come.
     Need,
-    /// A whole request.
-    Ask(Request),
+    /// A whole request. It stands in a box, so that the other steps, which are more, stay small.
+    Ask(Box<Request>),
     /// A request waits for the answer 100 before it sends its body.
     Continue,
     /// A request is refused with this code.

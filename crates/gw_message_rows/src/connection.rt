@@ -44,7 +44,7 @@ impl Connection {
 
 fn request_in(step: Step) -> Option<Request> {
     match step {
-        Step::Ask(request) => Some(request),
+        Step::Ask(request) => Some(Box::into_inner(request)),
         _ => None,
     }
 }

@@ -70,3 +70,8 @@ waits_for_data d count = waits_at d.stage (d.limits.content - length d.content.i
 abbrev pub waits : Reading → List ℕ → Bool
 waits (Sized room size) bytes = nat_lt (length bytes) size && nat_le (length bytes) room
 waits (Chunked d) bytes = waits_for_data d (length bytes)
+
+-- How many bytes of a body of an announced size haven't come, behind those that were taken. None is known to be missing of a chunked one.
+abbrev pub missing : Reading → List ℕ → ℕ
+missing (Sized room size) bytes = size - length bytes
+missing (Chunked d) bytes = 0

@@ -64,7 +64,7 @@ pub enum Progress {
 }
 
 impl Reading {
-    ghost use Rattle.gw_messages.specs.Readings.{Comes, IsProgress, Leads, waits};
+    ghost use Rattle.gw_messages.specs.Readings.{Comes, IsProgress, Leads, missing, waits};
 
     /// Nothing came of a body of so many bytes, or of a chunked one.
     pub fn new(alloc: Global, limits: Limits, size: Option<usize>) -> Self
@@ -106,6 +106,16 @@ impl Reading {
         };
         if buffer.bytes().len() < *size {
             buffer.make_room(*size);
+        }
+    }
+
+    /// How many bytes are missing of a body of an announced size; 0 of a chunked one.
+    pub fn missing(&self, buffer: &Buffer) -> usize
+        ensures { result ≡ missing self.now buffer.now }
+    {
+        match self {
+            Reading::Sized(_, size) => size.saturating_sub(buffer.bytes().len()),
+            Reading::Chunked(_) => 0,
         }
     }
 

@@ -60,7 +60,7 @@ fn take_step(inlet: &mut Inlet, requests: &mut Vec<Request>) -> Result<bool, NoM
 {
     match inlet.next()? {
         Step::Ask(request) => {
-            requests.push(request)?;
+            requests.push(Box::into_inner(request))?;
             Ok(true)
         }
         Step::Continue => Ok(true),
