@@ -63,12 +63,12 @@ left_at (Reads o r) count = 2 * (1000 - count) - 1
 left_at (Closing why) count = 0
 left_at (Done why) count = 0
 
--- How many bytes haven't come of the body that is read at a stage, where its size was announced.
-abbrev pub missing_at : Stage → List ℕ → ℕ
-missing_at Head buffer = 0
-missing_at (Reads o r) buffer = missing_of r buffer
-missing_at (Closing why) buffer = 0
-missing_at (Done why) buffer = 0
+-- How many bytes of the body that is read at a stage are known to be missing; none where no body is read.
+abbrev pub missing_at : Stage → List ℕ → Option ℕ
+missing_at Head buffer = None
+missing_at (Reads o r) buffer = Some (missing_of r buffer)
+missing_at (Closing why) buffer = None
+missing_at (Done why) buffer = None
 
 -- How many requests and answers 100 an inlet may still give.
 abbrev pub steps_left : Inlet → ℕ

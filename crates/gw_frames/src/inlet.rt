@@ -119,15 +119,15 @@ impl Inlet {
         self.stage.ended()
     }
 
-    /// How many bytes are missing of the body that is read, where its size was announced; else 0.
-    pub fn missing(&self) -> usize
+    /// How many bytes of the body that is read are known to be missing: 0 of a chunked one. None: no body is read.
+    pub fn missing(&self) -> Option<usize>
         ensures { result ≡ missing_at self.now.stage self.now.buffer }
     {
         match &self.stage {
-            Stage::Body(_, reading) => reading.missing(&self.buffer),
-            Stage::Head => 0,
-            Stage::Closing(_) => 0,
-            Stage::Done(_) => 0,
+            Stage::Body(_, reading) => Some(reading.missing(&self.buffer)),
+            Stage::Head => None,
+            Stage::Closing(_) => None,
+            Stage::Done(_) => None,
         }
     }
 

@@ -24,8 +24,11 @@ use gw_snap::OpenFault;
 use gw_text::{List, NoMemory, Socket, Text};
 use std::alloc::Global;
 
-/// The most bytes that one read is asked for: a head, and 64 KiB of its body.
-const MOST_PIECE: usize = 81_920;
+/// The most bytes that one read is asked for.
+const MOST_PIECE: usize = 65_536;
+
+/// How many bytes a read is asked for where no body is read: the most that a head has.
+const HEAD_PIECE: usize = 16_384;
 
 /// A connection that was served to its end.
 #[derive(Drop)]
@@ -162,12 +165,13 @@ fn serve<K: Link, U: Upstream>(
     let mut buffer = [0; MOST_PIECE];
     let mut taken = 0;
     'pieces: loop {
-        let size = match link.read(&mut buffer) {
+        let piece = &mut buffer[..conn.piece_size()];
+        let size = match link.read(piece) {
             Ok(size) => size,
             Err(_) => return Err(ConnFault::Read),
         };
         taken += size;
-        match conn.take(w, &buffer[..size], link, up)? {
+        match conn.take(w, &piece[..size], link, up)? {
             Flow::More => {}
             Flow::Ended(why) => return Ok(why),
         }
@@ -175,6 +179,19 @@ fn serve<K: Link, U: Upstream>(
 }
 
 impl Conn {
+    // How many bytes the next read is asked for. Of a body of an announced size no more than is missing, so that its bytes come without
+    // those of the next request, and are handed on without a copy.
+    fn piece_size(&self) -> usize
+        ensures some { 0 < result }
+        ensures few { result ≤ MOST_PIECE }
+    {
+        match self.inlet.missing() {
+            None => HEAD_PIECE,
+            Some(0) => MOST_PIECE,
+            Some(missing) => missing.min(MOST_PIECE),
+        }
+    }
+
     /// Takes the next bytes, of which an empty piece is the end, and serves all requests that are whole: sends them to backends, and
     /// writes the replies.
     pub fn take<K: Link, U: Upstream>(
