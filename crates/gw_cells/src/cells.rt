@@ -87,7 +87,7 @@ impl Cells {
         ensures steps { steps.new ≤ steps.old + most_probes request.now }
         ensures later { steps.old ≤ steps.new }
     {
-        let parameters = Parameters::cut(&request.query);
+        let parameters = Parameters::of(&request.query);
         find_by_name(&self.names, request, &parameters, steps)
     }
 }

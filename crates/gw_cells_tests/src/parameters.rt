@@ -71,7 +71,7 @@ const ASKED: &[(&str, &str, Option<usize>)] = &[
     ("equal", "b", None),
 ];
 
-// How many parameters the queries have, at both ends of those that are looked through.
+// How many parameters the queries have.
 const COUNTS: &[usize] = &[1, 4, 31, 32, 33, 40, 70];
 
 fn push_parameter(target: &mut String, alloc: Global, place: usize) -> Result<(), NoMemory> {
@@ -111,12 +111,12 @@ fn push_match(row: &mut Row, alloc: Global, name: &str, value: &str) -> Result<(
 }
 
 fn expect(alloc: Global, row: &Row, request: &Request, wanted: bool, of: &str) -> Result<(), Fail> {
-    let cut = Parameters::cut(&request.query);
+    let parameters = Parameters::of(&request.query);
     let failed = if wanted { None } else { Some(Test::Query) };
     let same = fits(row, request) == wanted
-        && fits_with(row, request, &cut) == wanted
+        && fits_with(row, request, &parameters) == wanted
         && failed_test(row, request) == failed
-        && failed_test_with(row, request, &cut) == failed;
+        && failed_test_with(row, request, &parameters) == failed;
     if !same {
         return Err(Fail::new(format!(in alloc; "{of} is to fit: {wanted}")?));
     }

@@ -34,7 +34,7 @@ fn explain_rows(
 ) -> Result<Explained, NoMemory>
     ensures { IfOk result (λ e. e.items ≡ explained_over (rules.reason_at (option_copied listener.entry) (option_copied best.entry) request.now) rows.now) }
 {
-    let parameters = Parameters::cut(&request.query);
+    let parameters = Parameters::of(&request.query);
     let mut reasons = Reasons::new(alloc);
     'rows: for row in rows {
         let why = reason_at(listener, best, request, &parameters, row);

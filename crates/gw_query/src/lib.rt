@@ -5,8 +5,6 @@ mod parameters;
 mod part;
 mod query;
 mod sorted;
-mod value;
 
 pub use parameters::Parameters;
 pub use query::Query;
-pub use value::Value;

@@ -1,16 +1,14 @@
 //! The parts of a query, as they stand there.
-ghost use Rattle.std.specs.Prelude.{◌≡◌, ◌<◌, ◌∷◌, ◌==◌, [], Some, length, option_copied, unwrap_or, bytes_eq, IfSome};
+ghost use Rattle.std.specs.Prelude.{◌≡◌, ◌<◌, ◌∷◌, ◌==◌, [], Some, length, option_copied, unwrap_or, IfSome};
 ghost use Rattle.std.specs.List.{after_first, before_first, slice_split};
-ghost use Rattle.percent_encoding.specs.Percent as percent;
 ghost use Rattle.gw_query.specs.Cut.{parameter_in, parameters_left};
 ghost use Rattle.gw_query.specs.Parts.{parts_left};
 ghost use Rattle.gw_query.specs.model.Parameters as rules;
 
 use gw_messages::bytes::index_of;
-use percent_encoding::percent_decode;
 
 /// A parameter as it stands in a query.
-#[derive(Clone, Copy, Default)]
+#[derive(Clone, Copy)]
 pub(crate) struct Part<'q> {
     pub(crate) name: &'q [u8],
     pub(crate) value: &'q [u8],
@@ -27,13 +25,6 @@ impl<'q> Part<'q> {
             value: value.unwrap_or(b""),
         }
     }
-
-    /// Whether its name is this one when it is decoded.
-    pub(crate) fn is_named(&self, name: &[u8]) -> bool
-        ensures { result ≡ bytes_eq (parameter_in self.now).name name.now }
-    {
-        decodes_to(self.name, name)
-    }
 }
 
 // What stands before the first such byte, and what stands behind it, if it is there.
@@ -49,21 +40,6 @@ fn cut_at(text: &[u8], byte: u8) -> (&[u8], Option<&[u8]>)
     } else {
         (text, None)
     }
-}
-
-/// Whether the text is this one when it is decoded. It takes no memory.
-pub(crate) fn decodes_to(text: &[u8], decoded: &[u8]) -> bool
-    ensures { result ≡ bytes_eq (percent.percent_decode text.now) decoded.now }
-{
-    let mut bytes = percent_decode(text);
-    let mut rest = decoded;
-    'bytes: while let Some(byte) = bytes.next() {
-        match rest.split_first() {
-            Some((first, more)) if byte == *first => rest = more,
-            _ => return false,
-        }
-    }
-    rest.is_empty()
 }
 
 /// The first parameter of a query, and the text of those behind it.

@@ -1,5 +1,5 @@
 //! The query of a request.
-ghost use Rattle.std.specs.Prelude.{◌≡◌, ◌==◌, nat_lt, Some, IfOk, IfSome, count_by};
+ghost use Rattle.std.specs.Prelude.{◌≡◌, Some, IfOk};
 ghost use Rattle.gw_query.specs.Sorted.{AreSorted};
 ghost use Rattle.gw_query.specs.model.Parameters as rules;
 
@@ -8,13 +8,10 @@ use gw_text::{NoMemory, Text};
 use std::alloc::Global;
 use std::marker::Model;
 
-/// How many parameters most queries have at most: they need no memory to be found.
-pub(crate) const FEW_PARAMETERS: usize = 32;
-
-/// The query of a request: its text, and where it has many parameters, these in the order of their names.
+/// The query of a request: its text, and its parameters in the order of their names, which are cut and decoded once for all rows.
 pub struct Query {
     text: Text,
-    sorted: Option<Vec<Decoded>>,
+    sorted: Vec<Decoded>,
 }
 
 // Written out, so that crates above don't prove anew how its parts are dropped.
@@ -25,7 +22,7 @@ impl Drop for Query {
 }
 
 impl Model for Query {
-    ghost use Rattle.std.specs.Prelude.{List, ℕ, Some, IfSome};
+    ghost use Rattle.std.specs.Prelude.{List, ℕ, Some};
     ghost use Rattle.gw_query.specs.Sorted.{AreSorted};
     ghost use Rattle.gw_query.specs.model.Parameters.{parameters_of};
 
@@ -33,7 +30,7 @@ impl Model for Query {
 
     ghost view = { λ q. q.text };
 
-    ghost invariant = { λ q. IfSome q.sorted (λ sorted. AreSorted sorted.items (parameters_of (Some q.text))) };
+    ghost invariant = { λ q. AreSorted q.sorted.items (parameters_of (Some q.text)) };
 }
 
 impl Query {
@@ -42,7 +39,7 @@ impl Query {
         ensures { IfOk result (λ query. query ≡ text.now) }
     {
         let text = Text::of(alloc, text)?;
-        let sorted = sorted_if_many(alloc, text.bytes())?;
+        let sorted = sorted_of(alloc, text.bytes())?;
         Ok(Query { text, sorted })
     }
 
@@ -53,28 +50,10 @@ impl Query {
         self.text.bytes()
     }
 
-    /// Its parameters in the order of their names, where it has many.
-    pub(crate) fn sorted(&self) -> Option<&[Decoded]>
-        ensures { IfSome result (λ sorted. AreSorted sorted.now (rules.parameters_of (Some self.now))) }
+    /// Its parameters in the order of their names.
+    pub(crate) fn sorted(&self) -> &[Decoded]
+        ensures { AreSorted result.now (rules.parameters_of (Some self.now)) }
     {
-        match &self.sorted {
-            Some(sorted) => Some(sorted.as_slice()),
-            None => None,
-        }
+        self.sorted.as_slice()
     }
-}
-
-fn has_few(text: &[u8]) -> bool
-    ensures { result ≡ nat_lt (count_by (λ b. b == 38) text.now) 32 }
-{
-    text.iter().filter(|byte| **byte == b'&').count() < FEW_PARAMETERS
-}
-
-fn sorted_if_many(alloc: Global, text: &[u8]) -> Result<Option<Vec<Decoded>>, NoMemory>
-    ensures { IfOk result (λ sorted. IfSome sorted (λ sorted. AreSorted sorted.items (rules.parameters_of (Some text.now)))) }
-{
-    if has_few(text) {
-        return Ok(None);
-    }
-    Ok(Some(sorted_of(alloc, text)?))
 }

@@ -1,14 +1,12 @@
-//! The parameters of a query, decoded and in the order of their names: for a query of many.
+//! The parameters of a query, decoded and in the order of their names.
 ghost use Rattle.std.specs.Prelude.{◌≡◌, Some, IfOk, slice_get, option_copied, option_map};
 ghost use Rattle.std.specs.List.Sorted.{IsSortedBy};
 ghost use Rattle.percent_encoding.specs.Percent as percent;
 ghost use Rattle.gw_query.specs.Cut.{parameter_in};
 ghost use Rattle.gw_query.specs.Sorted.{AreSorted, if_named, is_before};
-ghost use Rattle.gw_query.specs.Values.{value_in};
 ghost use Rattle.gw_query.specs.model.Parameters as rules;
 
 use crate::part::{Part, first_part};
-use crate::value::Value;
 use gw_text::{NoMemory, Text};
 use percent_encoding::percent_decode;
 use std::alloc::Global;
@@ -92,19 +90,19 @@ fn item_at(sorted: &[Decoded], at: usize) -> Option<&Decoded>
 }
 
 // The value of a parameter that may be there, where it has the name.
-fn value_if_named<'d>(decoded: Option<&'d Decoded>, name: &Text) -> Option<Value<'d>>
-    ensures { option_map value_in result ≡ option_map (λ p. p.value) (if_named name.now (option_copied decoded.entry)) }
+fn value_if_named<'d>(decoded: Option<&'d Decoded>, name: &Text) -> Option<&'d [u8]>
+    ensures { option_copied result ≡ option_map (λ p. p.value) (if_named name.now (option_copied decoded.entry)) }
 {
     match decoded {
-        Some(decoded) if decoded.name() == name => Some(Value::Decoded(decoded.value().bytes())),
+        Some(decoded) if decoded.name() == name => Some(decoded.value().bytes()),
         _ => None,
     }
 }
 
 /// The value of the first of them that has the name.
-pub(crate) fn value_at<'d>(sorted: &'d [Decoded], name: &Text) -> Option<Value<'d>>
+pub(crate) fn value_at<'d>(sorted: &'d [Decoded], name: &Text) -> Option<&'d [u8]>
     requires { IsSortedBy is_before sorted.now }
-    ensures { option_map value_in result ≡ rules.first_value name.now sorted.now }
+    ensures { option_copied result ≡ rules.first_value name.now sorted.now }
 {
     let first = sorted.partition_point(|decoded| decoded.name().cmp(name).is_lt());
     value_if_named(item_at(sorted, first), name)

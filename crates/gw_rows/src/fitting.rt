@@ -47,7 +47,7 @@ fn method_fits(asked: &Option<Text>, method: &Text) -> bool
     }
 }
 
-/// The first test of the row that doesn't hold of the request, whose parameters were cut.
+/// The first test of the row that doesn't hold of the request, whose parameters are given.
 #[tactic(auto, unfolding(crate::specs::model::Fitting::failed_test))]
 pub fn failed_test_with(row: &Row, request: &Request, parameters: &Parameters) -> Option<Test>
     requires { parameters.now ≡ parameters_of request.now.query }
@@ -75,10 +75,10 @@ pub fn failed_test_with(row: &Row, request: &Request, parameters: &Parameters) -
 pub fn failed_test(row: &Row, request: &Request) -> Option<Test>
     ensures { result ≡ rules.failed_test row.now request.now }
 {
-    failed_test_with(row, request, &Parameters::uncut(&request.query))
+    failed_test_with(row, request, &Parameters::of(&request.query))
 }
 
-/// Whether all tests of the row hold of the request, whose parameters were cut.
+/// Whether all tests of the row hold of the request, whose parameters are given.
 #[tactic(auto, unfolding(crate::specs::model::Fitting::fits, crate::specs::model::Fitting::failed_test))]
 pub fn fits_with(row: &Row, request: &Request, parameters: &Parameters) -> bool
     requires { parameters.now ≡ parameters_of request.now.query }
@@ -91,5 +91,5 @@ pub fn fits_with(row: &Row, request: &Request, parameters: &Parameters) -> bool
 pub fn fits(row: &Row, request: &Request) -> bool
     ensures { result ≡ rules.fits row.now request.now }
 {
-    fits_with(row, request, &Parameters::uncut(&request.query))
+    fits_with(row, request, &Parameters::of(&request.query))
 }

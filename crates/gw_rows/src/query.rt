@@ -1,19 +1,18 @@
 //! What matches ask of the parameters of a query.
 ghost use Rattle.std.specs.Prelude.{◌≡◌, ◌||◌, length};
 ghost use Rattle.std.specs.List.{list_all, list_any};
-ghost use Rattle.gw_query.specs.Values.{value_in};
 ghost use Rattle.gw_rows.specs.model.Fitting as rules;
 
 use crate::counted::one_unless;
-use gw_query::{Parameters, Value};
+use gw_query::Parameters;
 use gw_route::QueryParamMatch;
 use gw_text::ValueMatchType;
 
-fn value_fits(value: &Value, asked: &QueryParamMatch) -> bool
-    ensures { result ≡ rules.value_fits asked.now.sort asked.now.value (value_in value.now) }
+fn value_fits(value: &[u8], asked: &QueryParamMatch) -> bool
+    ensures { result ≡ rules.value_fits asked.now.sort asked.now.value value.now }
 {
     match &asked.sort {
-        ValueMatchType::Exact => value.is(asked.value.bytes()),
+        ValueMatchType::Exact => value == asked.value.bytes(),
         ValueMatchType::Other(_) => false,
     }
 }
@@ -22,7 +21,7 @@ fn query_param_fits(query: &Parameters, asked: &QueryParamMatch) -> bool
     ensures { result ≡ rules.query_param_fits query.now asked.now }
 {
     match query.first_value(&asked.name) {
-        Some(value) => value_fits(&value, asked),
+        Some(value) => value_fits(value, asked),
         None => false,
     }
 }
