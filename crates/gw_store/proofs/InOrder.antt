@@ -14,7 +14,7 @@ module _ {X : Type 0} (P : X → Type 0) where
   all_weaker Q step [] all = tt
   all_weaker Q step (x ∷ xs) all = (step x all.0, all_weaker Q step xs all.1)
 
-  all_append : (xs ys : List X) → AllByRecursion P xs → AllByRecursion P ys → AllByRecursion P (xs ++ ys)
+  pub all_append : (xs ys : List X) → AllByRecursion P xs → AllByRecursion P ys → AllByRecursion P (xs ++ ys)
   all_append [] ys first second = second
   all_append (x ∷ xs) ys first second = (first.0, all_append xs ys first.1 second)
 
@@ -22,7 +22,7 @@ module _ {X : Type 0} (P : X → Type 0) where
   all_cond true x xs here all = (here, all)
   all_cond false x xs here all = all
 
-  all_filter : (q : X → Bool) (xs : List X) → AllByRecursion P xs → AllByRecursion P (filter q xs)
+  pub all_filter : (q : X → Bool) (xs : List X) → AllByRecursion P xs → AllByRecursion P (filter q xs)
   all_filter q [] all = tt
   all_filter q (x ∷ xs) all = all_cond (q x) x (filter q xs) all.0 (all_filter q xs all.1)
 

@@ -29,7 +29,7 @@ IsLeft (Service d) s = record { stored = s.world.services; spare = s.rooms.servi
 IsLeft (EndpointSlice d) s = record {
   stored = s.world.slices;
   spare = s.rooms.slices;
-  index = record { slices = s.by_service; spare = s.rooms.by_service };
+  index = record { slices = s.by_service; spares = s.rooms.by_service };
 } ≡ d.after
 
 -- The store in which the objects of its kind are as before.
@@ -42,7 +42,7 @@ restored (Namespace d) s = record s { world = record s.world { namespaces = d.be
 restored (Service d) s = record s { world = record s.world { services = d.before.stored }; rooms = record s.rooms { services = d.before.spare } }
 restored (EndpointSlice d) s = record {
   world = record s.world { slices = d.before.stored };
-  rooms = record s.rooms { slices = d.before.spare; by_service = d.before.index.spare };
+  rooms = record s.rooms { slices = d.before.spare; by_service = d.before.index.spares };
   by_service = d.before.index.slices;
 }
 

@@ -2,7 +2,7 @@
 ghost use Rattle.std.specs.Prelude.{◌≡◌, IfOk};
 ghost use Rattle.gw_store.specs.ByService.{slice_digest};
 
-use crate::by_service::ServiceSlice;
+use crate::service_slice::ServiceSlice;
 use gw_objects::EndpointSlice;
 use gw_text::{Incoming, NoMemory};
 use std::alloc::Global;

@@ -3,10 +3,11 @@ ghost use Rattle.std.specs.Prelude.{◌≡◌, ◌<◌, [], length, map, filter,
 ghost use Rattle.gw_text.specs.model.References.{is_slice_of};
 ghost use Rattle.gw_text.specs.model.Stored.{put, remove, stored_at, in_namespace, objects_of, IsInKeyOrder};
 ghost use Rattle.gw_text.specs.model.World.{slice_key};
-ghost use Rattle.gw_store.specs.ByService.{IsLeftBy, before_change, put_by};
+ghost use Rattle.gw_store.specs.ByService.{IsLeftBy, before_change, least_spare, put_by};
 
-use crate::by_service::{ByService, IndexChange, ServiceSlice, service_digest, slice_digest};
+use crate::by_service::{ByService, IndexChange};
 use crate::incoming::IncomingSlice;
+use crate::service_slice::{ServiceSlice, service_digest, slice_digest};
 use crate::table::{Displaced, Keyed, Table};
 use gw_objects::EndpointSlice;
 use gw_text::{Key, NoMemory, Second, Stored, Text};
@@ -70,7 +71,7 @@ impl Slices {
         ensures stored { self.new.stored ≡ self.old.stored }
         ensures slices { self.new.index.slices ≡ self.old.index.slices }
         ensures ok { OnOk result (0 < self.new.spare) }
-        ensures index { OnOk result (0 < self.new.index.spare) }
+        ensures index { OnOk result (0 < least_spare self.new.index.spares) }
     {
         self.table.reserve()?;
         self.by_service.reserve()
@@ -101,7 +102,7 @@ impl Slices {
     /// Holds `slice` under its key, in place of the one that is held there, whose first moment stays.
     pub fn put(&mut self, slice: IncomingSlice, now: Second) -> DisplacedSlice
         requires spare { 0 < self.old.spare }
-        requires index { 0 < self.old.index.spare }
+        requires index { 0 < least_spare self.old.index.spares }
         ensures stored { self.new.stored ≡ put slice_key slice now self.old.stored }
         ensures displaced { result ≡ record { before = self.old; after = self.new; put = Some slice } }
     {

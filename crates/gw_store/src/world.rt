@@ -77,7 +77,7 @@ impl Model for World {
         namespaces = w.namespaces.spare;
         services = w.services.spare;
         slices = w.slices.spare;
-        by_service = w.slices.index.spare;
+        by_service = w.slices.index.spares;
       };
       by_service = w.slices.index.slices;
     } };

@@ -1,44 +1,42 @@
--- The slice goes to the place that the search finds.
-use Rattle.std.proofs.Common.{◌∙◌, ap, Ok, Err, rules}
-use Rattle.std.specs.Ordering.{nat_cmp, ordering_then}
-use Rattle.std.proofs.lemmas.Fn.{always_returns_same}
-use Rattle.gw_text.specs.model.Names.{key_order}
-use Rattle.gw_text.specs.model.World.{slice_key}
-use Rattle.gw_store.specs.ByService.{slice_digest, service_order, put_slice}
-use Rattle.gw_store.proofs.Digests.{service_total, placed}
-use Rattle.gw_store.proofs.InOrder.{ordered_put, put_standing, put_missing}
+-- The slice goes to the part of its digest, and the others stay as they are.
+use Rattle.std.proofs.Common.{◌≡◌, ◌<◌, ◌∙◌, ap, get_or, length, sym}
+use Rattle.gw_store.specs.ByService.{Part, Reindexing, part_number, part_of}
+use Rattle.gw_store.proofs.Parts.{own_put, parted_set, read_change, read_put, room_at, within_room}
 use Rattle.gw_store.proofs.by_service.ByService.put.Goals as goal
 
-pub set-requires-clause-order : goal.set-requires-clause-order
-set-requires-clause-order c =
-    let x = c.args.slice in
-    let slices = c.self.inside.slices.items in
-    let place = placed x c.digest-digest.result c.key-key.result.now c.as_slice-slices.result.now slices (Ok c.in-Ok.at) c.digest-digest.ensures (c.key-key.ensures.value ∙ ap slice_key c.deref.ensures) c.as_slice-slices.ensures.value c.self.invariant c.in-Ok.ensures.bound
-    (c.in-Ok.ensures.position (λ s. ordering_then (nat_cmp (slice_digest s) c.digest-digest.result) (key_order (slice_key s) c.key-key.result.now)) (always_returns_same _ _ _ (λ s r q k. search rules))) in
-    rw (← c.self.view_is, put_standing service_order x slices c.in-Ok.at place) (ordered_put service_order service_total x slices c.self.invariant)
+pub put-change-requires : goal.put-change-requires
+put-change-requires c =
+    let parts = c.self.inside.parts.items in
+    let i = c.part_number-number.result in
+    let part = c.index_mut.result.now in
+    let within : i < length parts = within_room parts i c.self.invariant (rw (← c.self.view_is) at c.requires) c.part_number-number.ensures.within in
+    let room : 0 < (get_or parts i part).spare = room_at parts i part within (rw (← c.self.view_is) at c.requires) in
+    rw c.index_mut.ensures.value room
 
-pub insert-requires-clause-order : goal.insert-requires-clause-order
-insert-requires-clause-order c =
-    let x = c.args.slice in
-    let slices = c.self.inside.slices.items in
-    let place = placed x c.digest-digest.result c.key-key.result.now c.as_slice-slices.result.now slices (Err c.in-Err.at) c.digest-digest.ensures (c.key-key.ensures.value ∙ ap slice_key c.deref.ensures) c.as_slice-slices.ensures.value c.self.invariant c.in-Err.ensures.bound
-    (c.in-Err.ensures.position (λ s. ordering_then (nat_cmp (slice_digest s) c.digest-digest.result) (key_order (slice_key s) c.key-key.result.now)) (always_returns_same _ _ _ (λ s r q k. search rules))) in
-    rw (← c.self.view_is, put_missing service_order x slices c.in-Err.at place) (ordered_put service_order service_total x slices c.self.invariant)
+pub invariant_of-self : goal.invariant_of-self
+invariant_of-self c =
+    let parts = c.self.inside.parts.items in
+    let i = c.part_number-number.result in
+    let within : i < length parts = within_room parts i c.self.invariant (rw (← c.self.view_is) at c.requires) c.part_number-number.ensures.within in
+    let here : part_of c.args.slice ≡ i = sym (c.part_number-number.ensures.value ∙ ap part_number c.digest.ensures) in
+    parted_set parts i c.put-change.new.self c.self.invariant
+    (own_put parts i c.index_mut.result.now c.put-change.new.self c.self.invariant within c.index_mut.ensures.value c.args.slice here c.put-change.ensures.slices)
 
-pub returns-in-Ok-clause-slices : goal.returns-in-Ok-clause-slices
-unfolding put_slice
-returns-in-Ok-clause-slices c =
-    let x = c.args.slice in
-    let slices = c.self.inside.slices.items in
-    let place = placed x c.digest-digest.result c.key-key.result.now c.as_slice-slices.result.now slices (Ok c.in-Ok.at) c.digest-digest.ensures (c.key-key.ensures.value ∙ ap slice_key c.deref.ensures) c.as_slice-slices.ensures.value c.self.invariant c.in-Ok.ensures.bound
-    (c.in-Ok.ensures.position (λ s. ordering_then (nat_cmp (slice_digest s) c.digest-digest.result) (key_order (slice_key s) c.key-key.result.now)) (always_returns_same _ _ _ (λ s r q k. search rules))) in
-    rw (c.set.ensures.slices, ← c.self.view_is) (put_standing service_order x slices c.in-Ok.at place)
+pub invariant_of-result : goal.invariant_of-result
+invariant_of-result c =
+    let parts = c.self.inside.parts.items in
+    let i = c.part_number-number.result in
+    let part = c.index_mut.result.now in
+    let within : i < length parts = within_room parts i c.self.invariant (rw (← c.self.view_is) at c.requires) c.part_number-number.ensures.within in
+    let here : part_of c.args.slice ≡ i = sym (c.part_number-number.ensures.value ∙ ap part_number c.digest.ensures) in
+    let own = own_put parts i part c.put-change.new.self c.self.invariant within c.index_mut.ensures.value c.args.slice here c.put-change.ensures.slices in
+    rw (c.of-before.ensures, ← c.self.view_is, c.of.ensures) (read_change parts i part c.put-change.new.self c.self.invariant within c.index_mut.ensures.value c.put-change.result own
+    (ap (λ (change : Reindexing Part). change.before) c.put-change.ensures.change) (ap (λ (change : Reindexing Part). change.after) c.put-change.ensures.change))
 
-pub returns-in-Err-clause-slices : goal.returns-in-Err-clause-slices
-unfolding put_slice
-returns-in-Err-clause-slices c =
-    let x = c.args.slice in
-    let slices = c.self.inside.slices.items in
-    let place = placed x c.digest-digest.result c.key-key.result.now c.as_slice-slices.result.now slices (Err c.in-Err.at) c.digest-digest.ensures (c.key-key.ensures.value ∙ ap slice_key c.deref.ensures) c.as_slice-slices.ensures.value c.self.invariant c.in-Err.ensures.bound
-    (c.in-Err.ensures.position (λ s. ordering_then (nat_cmp (slice_digest s) c.digest-digest.result) (key_order (slice_key s) c.key-key.result.now)) (always_returns_same _ _ _ (λ s r q k. search rules))) in
-    rw (c.insert.ensures.slices, ← c.self.view_is) (put_missing service_order x slices c.in-Err.at place)
+pub returns-clause-slices : goal.returns-clause-slices
+returns-clause-slices c =
+    let parts = c.self.inside.parts.items in
+    let i = c.part_number-number.result in
+    let within : i < length parts = within_room parts i c.self.invariant (rw (← c.self.view_is) at c.requires) c.part_number-number.ensures.within in
+    let here : part_of c.args.slice ≡ i = sym (c.part_number-number.ensures.value ∙ ap part_number c.digest.ensures) in
+    rw (← c.self.view_is) (read_put parts i c.index_mut.result.now c.put-change.new.self c.self.invariant within c.index_mut.ensures.value c.args.slice here c.put-change.ensures.slices)

@@ -1,6 +1,6 @@
 -- No slices are in order.
 use Rattle.std.specs.List.Sorted.{IsStrictlySortedBy}
-use Rattle.gw_store.proofs.by_service.ByService.new.Goals as goal
+use Rattle.gw_store.proofs.part.Part.new.Goals as goal
 
 pub invariant_of-result : goal.invariant_of-result
 unfolding IsStrictlySortedBy
