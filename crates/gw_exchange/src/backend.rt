@@ -114,7 +114,7 @@ fn receive_by<U: Upstream>(
         given += size;
         match step_of(reader, &buffer[..size]) {
             Ok(ReplyStep::Need) => {}
-            Ok(ReplyStep::Done(response)) => return Ok(response),
+            Ok(ReplyStep::Done(response)) => return Ok(Box::into_inner(response)),
             Ok(ReplyStep::Fault(fault)) => return Err(ExchangeFault::Backend(fault)),
             Err(_) => return Err(ExchangeFault::NoMemory),
         }

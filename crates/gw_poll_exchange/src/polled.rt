@@ -253,7 +253,7 @@ fn receive<U: PollUpstream>(
         given += size;
         match step_of(reader, &buffer[..size]) {
             Ok(ReplyStep::Need) => {}
-            Ok(ReplyStep::Done(response)) => return Poll::Ready(Ok(response)),
+            Ok(ReplyStep::Done(response)) => return Poll::Ready(Ok(Box::into_inner(response))),
             Ok(ReplyStep::Fault(fault)) => {
                 return Poll::Ready(Err(ExchangeFault::Backend(fault)));
             }

@@ -10,13 +10,15 @@ use Rattle.gw_messages.specs.declared.body.Reading.{Reading}
 use Rattle.gw_messages.specs.declared.section.Found.TheVariants.{Whole}
 use Rattle.gw_replies.specs.model.Responses.{Outcome, a_need, a_response, a_fault, Head as PlainHead, IsHead, Response, ResponseOf, Responds, no_head, long_head, bad_head, refused_head, many_interim, interim, bodiless, misframed, bodied, IsBodyOf, by_end, extent_of, outcome_of, response_of, unfinished, body_to_end}
 use Rattle.gw_replies.specs.Kinds.{IsKind}
-use Rattle.gw_replies.specs.Replies.{after, Answers, Ends, follows, Goes, HasGiven, IsFuture, IsOpen, IsReads, IsStep, StandsFor, Still, StillAt}
+use Rattle.gw_replies.specs.Replies.{after, Answers, Ends, follows, Goes, HasGiven, IsFuture, IsOpen, IsReads, IsStep, seen, StandsFor, Still, StillAt}
 use Rattle.gw_replies.specs.declared.fault.BackendFault.{BackendFault}
 use Rattle.gw_replies.specs.declared.fault.BackendFault.TheVariants as faults
 use Rattle.gw_replies.specs.declared.kind.Kind.TheVariants as kinds
 use Rattle.gw_replies.specs.declared.reader.ReplyReader.{ReplyReader}
 use Rattle.gw_replies.specs.declared.reader.Stage.{Stage}
 use Rattle.gw_replies.specs.declared.reader.Stage.TheVariants.{Head, Body as Reads, ToEnd, Done, Failed}
+use Rattle.std.specs.Prelude.{Box}
+use Rattle.std.specs.declared.alloc.Global.{Global}
 use Rattle.gw_replies.specs.declared.step.ReplyStep.{ReplyStep}
 use Rattle.gw_replies.specs.declared.step.ReplyStep.TheVariants as steps
 
@@ -59,7 +61,7 @@ goes_same i j over to_head interims taken stage buffer is_open = record {
 -- a step behind others
 pub step_after : (i j k : ReplyReader) (step : ReplyStep) → Goes i j → IsStep j k step → IsStep i k step
 step_after i j k steps.Need a is = (goes_then i j k a is.0, is.1)
-step_after i j k (steps.Done r) a is = (is.0 ∙ a.over, is.1, ends_after i j (a_response r) a is.2)
+step_after i j k (steps.Done r) a is = (is.0 ∙ a.over, is.1, ends_after i j (a_response r.value) a is.2)
 step_after i j k (steps.Fault fault) a is = (is.0 ∙ a.over, is.1, ends_after i j (a_fault fault) a is.2)
 
 -- what was given stays
@@ -98,7 +100,7 @@ pub stands_after : (i j : ReplyReader) (step : ReplyStep) (to_head : Bool) (byte
     → StandsFor to_head i bytes was → StandsFor to_head j bytes (after was step)
 stands_after i j steps.Need to_head bytes None is_open is stands = stands_goes i j to_head bytes None is_open is.0 stands
 stands_after i j (steps.Done r) to_head bytes None is_open is stands =
-    stands_end i j to_head bytes (a_response r) (subst (λ (s : Stage). HasGiven s (a_response r)) (sym is.1) refl) is.0 is.2 stands
+    stands_end i j to_head bytes (a_response r.value) (subst (λ (s : Stage). HasGiven s (a_response r.value)) (sym is.1) refl) is.0 is.2 stands
 stands_after i j (steps.Fault fault) to_head bytes None is_open is stands =
     stands_end i j to_head bytes (a_fault fault) (subst (λ (s : Stage). HasGiven s (a_fault fault)) (sym is.1) refl) is.0 is.2 stands
 stands_after i j step to_head bytes (Some outcome) is_open is stands = elim (not_both i.stage outcome is_open stands.0) [ ]
@@ -112,7 +114,7 @@ pub answers_after : (i j : ReplyReader) (step : ReplyStep) (to_head : Bool) (byt
     → StandsFor to_head i bytes was → Answers to_head bytes i.over was step
 answers_after i j steps.Need to_head bytes None is_open is stands =
     answers_end i to_head bytes a_need (is.0.leads [] i.over a_need (here i.over) (subst (λ (o : Bool). Still j [] o a_need) is.0.over is.1)) stands
-answers_after i j (steps.Done r) to_head bytes None is_open is stands = answers_end i to_head bytes (a_response r) (is.2 [] i.over (here i.over)) stands
+answers_after i j (steps.Done r) to_head bytes None is_open is stands = answers_end i to_head bytes (a_response r.value) (is.2 [] i.over (here i.over)) stands
 answers_after i j (steps.Fault fault) to_head bytes None is_open is stands = answers_end i to_head bytes (a_fault fault) (is.2 [] i.over (here i.over)) stands
 answers_after i j step to_head bytes (Some outcome) is_open is stands = elim (not_both i.stage outcome is_open stands.0) [ ]
 
@@ -220,9 +222,11 @@ pub step_failed : (i j : ReplyReader) (fault : BackendFault) (step : ReplyStep) 
 step_failed i j fault step over stage is ends = subst (λ (s : ReplyStep). IsStep i j s) (sym is) (over, stage, ends)
 
 -- a response was given
-pub step_done : (i j : ReplyReader) (r : Response) (step : ReplyStep) → j.over ≡ i.over → j.stage ≡ Done → step ≡ steps.Done r
+pub step_done : (i j : ReplyReader) (r : Response) (step : ReplyStep) → j.over ≡ i.over → j.stage ≡ Done → seen step ≡ a_response r
     → Ends i (a_response r) → IsStep i j step
-step_done i j r step over stage is ends = subst (λ (s : ReplyStep). IsStep i j s) (sym is) (over, stage, ends)
+step_done i j r steps.Need over stage is ends = absurd (cc)
+step_done i j r (steps.Done b) over stage is ends = (over, stage, subst (Ends i) (sym is) ends)
+step_done i j r (steps.Fault fault) over stage is ends = absurd (cc)
 
 -- bytes end where a response isn't whole
 pub cut_ends : (i : ReplyReader) → i.over ≡ true → ((over : Bool) → Still i [] over (unfinished over)) → Ends i (a_fault faults.Cut)
@@ -276,7 +280,7 @@ still_to_end h o before bytes over outcome extent opened is = (
 )
 
 -- a body goes on
-pub goes_reads : (i : ReplyReader) (o : Response) (r new : Reading) (before : List ℕ) → i.stage ≡ Reads o new → Leads r before new i.buffer
+pub goes_reads : (i : ReplyReader) (o : Box Response Global) (r new : Reading) (before : List ℕ) → i.stage ≡ Reads o new → Leads r before new i.buffer
     → Goes (record i { stage = Reads o r; buffer = before }) i
 goes_reads i o r new before is leads = record {
   over = refl;
@@ -288,7 +292,7 @@ goes_reads i o r new before is leads = record {
 }
 
 -- a body that isn't whole
-pub still_reads : (i : ReplyReader) (o : Response) (new : Reading) → i.stage ≡ Reads o new → Comes new i.buffer part_body → (over : Bool) → Still i [] over (unfinished over)
+pub still_reads : (i : ReplyReader) (o : Box Response Global) (new : Reading) → i.stage ≡ Reads o new → Comes new i.buffer part_body → (over : Bool) → Still i [] over (unfinished over)
 still_reads i o new is comes over =
     subst (λ (s : Stage). StillAt s i.to_head i.interims i.taken (i.buffer ++ []) over (unfinished over)) (sym is)
     (part_body, subst (λ (b : List ℕ). Comes new b part_body) (sym (append-nil i.buffer)) comes, refl)

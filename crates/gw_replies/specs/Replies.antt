@@ -12,7 +12,7 @@ use Rattle.gw_replies.specs.declared.step.ReplyStep.TheVariants as steps
 -- What a step says that bytes come to.
 abbrev pub seen : ReplyStep → Outcome
 seen steps.Need = a_need
-seen (steps.Done r) = a_response r
+seen (steps.Done r) = a_response r.value
 seen (steps.Fault fault) = a_fault fault
 
 -- What was given, if anything.
@@ -41,8 +41,8 @@ follows r part_body over = unfinished over
 abbrev pub StillAt : Stage → Bool → ℕ → ℕ → List ℕ → Bool → Outcome → Type 0
 StillAt Head to_head count before bytes over outcome = Responds to_head count before bytes over outcome
 StillAt (Reads r reading) to_head count before bytes over outcome =
-    (body : Body) × Comes reading bytes body × (outcome ≡ follows r body over)
-StillAt (ToEnd r) to_head count before bytes over outcome = outcome ≡ follows r (body_to_end bytes over) over
+    (body : Body) × Comes reading bytes body × (outcome ≡ follows r.value body over)
+StillAt (ToEnd r) to_head count before bytes over outcome = outcome ≡ follows r.value (body_to_end bytes over) over
 StillAt Done to_head count before bytes over outcome = ⊥
 StillAt (Failed fault) to_head count before bytes over outcome = ⊥
 
@@ -107,7 +107,7 @@ Ends i outcome = (next : List ℕ) (over : Bool) → IsFuture i.over next over �
 -- One reader becomes another by a step.
 abbrev pub IsStep : ReplyReader → ReplyReader → ReplyStep → Type 0
 IsStep i j steps.Need = Goes i j × Still j [] j.over a_need
-IsStep i j (steps.Done r) = (j.over ≡ i.over) × (j.stage ≡ Done) × Ends i (a_response r)
+IsStep i j (steps.Done r) = (j.over ≡ i.over) × (j.stage ≡ Done) × Ends i (a_response r.value)
 IsStep i j (steps.Fault fault) = (j.over ≡ i.over) × (j.stage ≡ Failed fault) × Ends i (a_fault fault)
 
 -- A body is read.

@@ -108,8 +108,8 @@ fn copy_head(
 
 impl Head {
     /// The response with an empty body.
-    pub fn opened(self, alloc: Global) -> Response
-        ensures { result ≡ response_of self [] }
+    pub fn opened(self, alloc: Global) -> Result<Box<Response>, NoMemory>
+        ensures { IfOk result (λ response. response.value ≡ response_of self []) }
     {
         let length = announced_length(self.fields.as_slice());
         let Head {
@@ -117,12 +117,13 @@ impl Head {
             phrase,
             fields,
         } = self;
-        Response {
+        let response = Response {
             code,
             phrase,
             fields,
             body: Text::from_vec(Vec::new(alloc)),
             length,
-        }
+        };
+        Ok(Box::new(alloc, response)?)
     }
 }

@@ -1,5 +1,5 @@
 ghost use Rattle.std.specs.Prelude.{◌≡◌, ◌≢◌, ◌<◌, ◌≤◌, ◌*◌, ◌++◌, ◌+◌, ℕ, [], true, false, take, drop, length, Bool, List, Option, Ok, None, Some, OnOk, OnErr, IfOk, IfSome};
-ghost use Rattle.gw_replies.specs.model.Responses.{fault_of, Outcome, unfinished};
+ghost use Rattle.gw_replies.specs.model.Responses.{a_response, fault_of, Outcome, unfinished};
 
 use crate::extent::{Extent, extent_of};
 use crate::fault::BackendFault;
@@ -40,9 +40,9 @@ pub struct ReplyReader {
 enum Stage {
     Head,
     /// The body of a response, whose end is told by its chunks or its size.
-    Body(Response, Reading),
+    Body(Box<Response>, Reading),
     /// The body of a response, which ends with the bytes.
-    ToEnd(Response),
+    ToEnd(Box<Response>),
     /// Nothing: the response was given.
     Done,
     /// Nothing: this was given, and stays.
@@ -50,7 +50,9 @@ enum Stage {
 }
 
 impl ReplyReader {
-    ghost use Rattle.gw_replies.specs.Replies.{after, Answers, follows, Goes, IsOpen, IsReads, IsStep, StandsFor, Still, with_body};
+    ghost use Rattle.gw_replies.specs.Replies.{after, Answers, follows, Goes, IsOpen, IsReads, IsStep, seen, StandsFor, Still, with_body};
+    ghost use Rattle.std.specs.Prelude.{Box};
+    ghost use Rattle.std.specs.declared.alloc.Global.{Global as InMemory};
     ghost use Rattle.gw_replies.specs.model.Responses.{Head as PlainHead, IsHead, is_misframed, Response as PlainResponse, response_of};
     ghost use Rattle.gw_messages.specs.Readings.{Comes, IsProgress, Leads};
     ghost use Rattle.gw_messages.specs.Searches.{IsFound};
@@ -177,30 +179,34 @@ impl ReplyReader {
     {
         match read_head(self.alloc, self.buffer.front(size))? {
             None => Ok(Some(self.fail(BackendFault::Head))),
-            Some(head) => Ok(self.take_head(size, head)),
+            Some(head) => self.take_head(size, head),
         }
     }
 
     // Takes the head of so many bytes.
-    fn take_head(&mut self, size: usize, head: Head) -> Option<ReplyStep>
+    fn take_head(&mut self, size: usize, head: Head) -> Result<Option<ReplyStep>, NoMemory>
         requires head { self.old.stage ≡ Stage.Head }
         requires whole { IsFound ends_head self.old.buffer (Found.Whole size) }
         requires reads { IsHead (take size self.old.buffer) (Some head) }
-        ensures step { IfSome result (IsStep self.old self.new) }
-        ensures goes { result ≡ None → Goes self.old self.new }
-        ensures smaller { result ≡ None → length self.new.buffer < length self.old.buffer }
+        ensures step { IfOk result (λ step. IfSome step (IsStep self.old self.new)) }
+        ensures goes { result ≡ Ok None → Goes self.old self.new }
+        ensures smaller { result ≡ Ok None → length self.new.buffer < length self.old.buffer }
+        ensures err { OnErr result (Goes self.old self.new) }
     {
         match kind_of(&head, self.to_head, self.interims) {
-            Kind::Refused => Some(self.fail(BackendFault::Head)),
-            Kind::Misframed => Some(self.fail(BackendFault::Body)),
-            Kind::Bodiless => Some(self.give(head.opened(self.alloc))),
+            Kind::Refused => Ok(Some(self.fail(BackendFault::Head))),
+            Kind::Misframed => Ok(Some(self.fail(BackendFault::Body))),
+            Kind::Bodiless => {
+                let response = head.opened(self.alloc)?;
+                Ok(Some(self.give(response)))
+            }
             Kind::Interim => {
                 self.pass(size);
-                None
+                Ok(None)
             }
             Kind::Bodied => {
-                self.open_body(size, head);
-                None
+                self.open_body(size, head)?;
+                Ok(None)
             }
         }
     }
@@ -222,18 +228,20 @@ impl ReplyReader {
     }
 
     // Goes on to the body of a response whose head has so many bytes.
-    fn open_body(&mut self, size: usize, head: Head)
+    fn open_body(&mut self, size: usize, head: Head) -> Result<(), NoMemory>
         requires head { self.old.stage ≡ Stage.Head }
         requires whole { IsFound ends_head self.old.buffer (Found.Whole size) }
         requires reads { IsHead (take size self.old.buffer) (Some head) }
         requires kind { IsKind self.old.to_head self.old.interims head Kind.Bodied }
-        ensures goes { Goes self.old self.new }
-        ensures buffer { self.new.buffer ≡ drop size self.old.buffer }
+        ensures goes { OnOk result (Goes self.old self.new) }
+        ensures buffer { OnOk result (self.new.buffer ≡ drop size self.old.buffer) }
+        ensures err { OnErr result (self.new ≡ self.old) }
     {
-        let stage = Stage::of(self.alloc, head, self.taken + size);
+        let stage = Stage::of(self.alloc, head, self.taken + size)?;
         self.buffer.advance(size);
         stage.make_room(&mut self.buffer);
         self.stage = stage;
+        Ok(())
     }
 
     // The step where a body comes next.
@@ -257,7 +265,7 @@ impl ReplyReader {
 
     // The step where a body came to this.
     fn after_body(&mut self, progress: Progress) -> ReplyStep
-        ensures { (o : PlainResponse) (r new : Read) (before : List ℕ) → self.old.stage ≡ Stage.Body o new → IsProgress r before new self.old.buffer progress
+        ensures { (o : Box PlainResponse InMemory) (r new : Read) (before : List ℕ) → self.old.stage ≡ Stage.Body o new → IsProgress r before new self.old.buffer progress
             → IsStep (record self.old { stage = Stage.Body o r; buffer = before }) self.new result }
     {
         match progress {
@@ -269,7 +277,7 @@ impl ReplyReader {
 
     // The step where a body ends with the bytes.
     fn read_to_end(&mut self) -> Result<ReplyStep, NoMemory>
-        requires { (o : PlainResponse) × (self.old.stage ≡ Stage.ToEnd o) }
+        requires { (o : Box PlainResponse InMemory) × (self.old.stage ≡ Stage.ToEnd o) }
         ensures step { IfOk result (IsStep self.old self.new) }
         ensures err { OnErr result (Goes self.old self.new) }
     {
@@ -286,19 +294,19 @@ impl ReplyReader {
     // Gives the response that the body makes whole.
     fn finish_body(&mut self, content: Vec<u8>) -> ReplyStep
         ensures after { self.new ≡ record self.old { stage = Stage.Done } }
-        ensures body { (o : PlainResponse) (r : Read) → self.old.stage ≡ Stage.Body o r → result ≡ ReplyStep.Done (with_body o content.items) }
-        ensures to_end { (o : PlainResponse) → self.old.stage ≡ Stage.ToEnd o → result ≡ ReplyStep.Done (with_body o content.items) }
+        ensures body { (o : Box PlainResponse InMemory) (r : Read) → self.old.stage ≡ Stage.Body o r → seen result ≡ a_response (with_body o.value content.items) }
+        ensures to_end { (o : Box PlainResponse InMemory) → self.old.stage ≡ Stage.ToEnd o → seen result ≡ a_response (with_body o.value content.items) }
     {
         match mem::replace(&mut self.stage, Stage::Done) {
-            Stage::Body(response, _) => ReplyStep::Done(response.with_body(content)),
-            Stage::ToEnd(response) => ReplyStep::Done(response.with_body(content)),
+            Stage::Body(response, _) => ReplyStep::Done(Response::with_body(response, content)),
+            Stage::ToEnd(response) => ReplyStep::Done(Response::with_body(response, content)),
             Stage::Head => ReplyStep::Need,
             Stage::Done => ReplyStep::Need,
             Stage::Failed(_) => ReplyStep::Need,
         }
     }
 
-    fn give(&mut self, response: Response) -> ReplyStep
+    fn give(&mut self, response: Box<Response>) -> ReplyStep
         ensures after { self.new ≡ record self.old { stage = Stage.Done } }
         ensures step { result ≡ ReplyStep.Done response }
     {
@@ -331,23 +339,25 @@ impl Stage {
     ghost use Rattle.gw_messages.specs.model.Bodies.{Body as BodyOf};
 
     // What comes behind a head, where so many bytes came.
-    fn of(alloc: Global, head: Head, before: usize) -> Stage
+    fn of(alloc: Global, head: Head, before: usize) -> Result<Stage, NoMemory>
         requires { is_misframed head.fields ≡ false }
-        ensures reads { IsReads result }
-        ensures still { (to_head : Bool) (count taken : ℕ) (bytes : List ℕ) (over : Bool) (outcome : Outcome) → StillAt result to_head count taken bytes over outcome
-            → (body : BodyOf) × IsBodyOf (extent_of head.fields) before bytes over body × (outcome ≡ outcome_of head body over) }
+        ensures reads { IfOk result IsReads }
+        ensures still { IfOk result (λ stage. (to_head : Bool) (count taken : ℕ) (bytes : List ℕ) (over : Bool) (outcome : Outcome) → StillAt stage to_head count taken bytes over outcome
+            → (body : BodyOf) × IsBodyOf (extent_of head.fields) before bytes over body × (outcome ≡ outcome_of head body over)) }
     {
         let limits = Limits {
             content: MOST_BODY,
             encoded: MOST_BYTES.saturating_sub(before),
         };
-        match extent_of(head.fields.as_slice()) {
-            Extent::Chunks => Stage::Body(head.opened(alloc), Reading::new(alloc, limits, None)),
-            Extent::Size(size) => Stage::Body(
-                head.opened(alloc),
+        let extent = extent_of(head.fields.as_slice());
+        let response = head.opened(alloc)?;
+        match extent {
+            Extent::Chunks => Ok(Stage::Body(response, Reading::new(alloc, limits, None))),
+            Extent::Size(size) => Ok(Stage::Body(
+                response,
                 Reading::new(alloc, limits, Some(size)),
-            ),
-            Extent::End => Stage::ToEnd(head.opened(alloc)),
+            )),
+            Extent::End => Ok(Stage::ToEnd(response)),
         }
     }
 

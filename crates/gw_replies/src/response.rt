@@ -29,10 +29,10 @@ impl Response {
     ghost use Rattle.gw_replies.specs.Replies.{with_body};
 
     /// The response with this body in the place of its own.
-    pub(crate) fn with_body(self, body: Vec<u8>) -> Response
-        ensures { result ≡ with_body self body.items }
+    pub(crate) fn with_body(response: Box<Response>, body: Vec<u8>) -> Box<Response>
+        ensures { result.value ≡ with_body response.value body.items }
     {
-        let mut response = self;
+        let mut response = response;
         response.body = Text::from_vec(body);
         response
     }

@@ -6,6 +6,7 @@ use crate::response::Response;
 pub enum ReplyStep {
     /// More bytes are needed.
     Need,
-    Done(Response),
+    /// The response. It stands in a box, so that the other steps, which are more, stay small.
+    Done(Box<Response>),
     Fault(BackendFault),
 }

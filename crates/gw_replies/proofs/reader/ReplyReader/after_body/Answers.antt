@@ -25,5 +25,5 @@ returns-in-Part c = λ o r new before is progress.
 pub returns-in-Whole : goal.returns-in-Whole
 returns-in-Whole c = λ o r new before is progress.
     let whole = subst (λ (p : Progress). IsProgress r before new c.args.self.now.buffer p) c.in-Whole.is progress in
-    step_done _ c.finish_body.new.self (with_body o c.in-Whole.content.items) _ (ap (λ (i : ReplyReader). i.over) c.finish_body.ensures.after) (ap (λ (i : ReplyReader). i.stage) c.finish_body.ensures.after)
+    step_done _ c.finish_body.new.self (with_body o.value c.in-Whole.content.items) _ (ap (λ (i : ReplyReader). i.over) c.finish_body.ensures.after) (ap (λ (i : ReplyReader). i.stage) c.finish_body.ensures.after)
     (c.finish_body.ensures.body o new is) (λ next over future. (whole_body c.in-Whole.content.items (c.args.self.now.buffer ++ next), whole next, refl))

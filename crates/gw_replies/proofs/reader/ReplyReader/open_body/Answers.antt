@@ -6,4 +6,4 @@ use Rattle.gw_replies.proofs.reader.ReplyReader.open_body.Goals as goal
 pub returns-clause-goes : goal.returns-clause-goes
 returns-clause-goes c =
     goes_to_body c.args.self.now _ c.args.size c.args.head c.requires.head c.requires.whole c.requires.reads c.requires.kind refl refl (c.make_room.ensures ∙ c.advance.ensures)
-    (reads_open c.of-stage.result c.of-stage.ensures.reads) c.of-stage.ensures.still
+    (reads_open c.in_ok-stage.stage c.in_ok-stage.ensures.reads) c.in_ok-stage.ensures.still

@@ -1,9 +1,9 @@
 -- What the head is.
 use Rattle.std.proofs.Common.{[], ap, sym, ◌∙◌, subst, ℕ, ◌<◌, List, length}
-use Rattle.gw_replies.specs.model.Responses.{Response, response_of}
+use Rattle.gw_replies.specs.Replies.{seen}
+use Rattle.gw_replies.specs.model.Responses.{a_response, Response, response_of}
 use Rattle.gw_replies.specs.declared.fault.BackendFault.TheVariants as faults
 use Rattle.gw_replies.specs.declared.reader.ReplyReader.{ReplyReader}
-use Rattle.gw_replies.specs.declared.step.ReplyStep.TheVariants as steps
 use Rattle.gw_replies.proofs.Replies.{few_bytes, fewer_left, goes_past, head_bodiless, head_misframed, head_refused, step_done, step_failed}
 use Rattle.gw_replies.proofs.reader.ReplyReader.take_head.Goals as goal
 
@@ -17,10 +17,10 @@ returns-in-Misframed-clause-step c =
     step_failed c.args.self.now c.fail-in-Misframed.new.self faults.Body _ (ap (λ (i : ReplyReader). i.over) c.fail-in-Misframed.ensures.after) (ap (λ (i : ReplyReader). i.stage) c.fail-in-Misframed.ensures.after) c.fail-in-Misframed.ensures.step
     (head_misframed c.args.self.now c.args.size c.args.head c.requires.head c.requires.whole c.requires.reads c.in-Misframed.ensures)
 
-pub returns-in-Bodiless-clause-step : goal.returns-in-Bodiless-clause-step
-returns-in-Bodiless-clause-step c =
+pub returns-in_ok-response-in-Bodiless-clause-step : goal.returns-in_ok-response-in-Bodiless-clause-step
+returns-in_ok-response-in-Bodiless-clause-step c =
     step_done c.args.self.now c.give.new.self (response_of c.args.head []) _ (ap (λ (i : ReplyReader). i.over) c.give.ensures.after) (ap (λ (i : ReplyReader). i.stage) c.give.ensures.after)
-    (c.give.ensures.step ∙ ap (λ (r : Response). steps.Done r) c.opened.ensures)
+    (ap seen c.give.ensures.step ∙ ap (λ (r : Response). a_response r) c.in_ok-response-in-Bodiless.ensures)
     (head_bodiless c.args.self.now c.args.size c.args.head c.requires.head c.requires.whole c.requires.reads c.in-Bodiless.ensures)
 
 pub pass-requires-clause-size : goal.pass-requires-clause-size
@@ -35,6 +35,6 @@ pub returns-in-Interim-clause-smaller : goal.returns-in-Interim-clause-smaller
 returns-in-Interim-clause-smaller c = λ e.
     subst (λ (b : List ℕ). length b < length c.args.self.now.buffer) (sym c.pass.ensures.buffer) (fewer_left c.args.self.now.buffer c.args.size c.requires.whole)
 
-pub returns-in-Bodied-clause-smaller : goal.returns-in-Bodied-clause-smaller
-returns-in-Bodied-clause-smaller c = λ e.
-    subst (λ (b : List ℕ). length b < length c.args.self.now.buffer) (sym c.open_body.ensures.buffer) (fewer_left c.args.self.now.buffer c.args.size c.requires.whole)
+pub returns-in_ok-open_body-in-Bodied-clause-smaller : goal.returns-in_ok-open_body-in-Bodied-clause-smaller
+returns-in_ok-open_body-in-Bodied-clause-smaller c = λ e.
+    subst (λ (b : List ℕ). length b < length c.args.self.now.buffer) (sym c.in_ok-open_body-in-Bodied.ensures.buffer) (fewer_left c.args.self.now.buffer c.args.size c.requires.whole)
