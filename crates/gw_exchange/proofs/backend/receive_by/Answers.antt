@@ -32,8 +32,8 @@ pub returns-in-Ok-Done-clause-comes : goal.returns-in-Ok-Done-clause-comes
 returns-in-Ok-Done-clause-comes g c =
     let i = c.pieces.invariant.so_far in
     let size = length-take-le c.in-Ok.size c.receive.new.buf c.in-Ok.ensures.within in
-    received_more _ _ _ _ _ _ _ _ (Ok c.in-Ok-Done.response) i.1 c.in-Ok.ensures.receives (omega (arith, size, c.in-Ok.ensures.within, c.receive.auto.buf))
-    (rw c.in-Ok-Done.field-0-is at (c.in-Ok-Done.ensures.settles c.args.reader.now.to_head i.0 i.1.stands))
+    rw c.into_inner.ensures (received_more _ _ _ _ _ _ _ _ (Ok c.in-Ok-Done.response.value) i.1 c.in-Ok.ensures.receives (omega (arith, size, c.in-Ok.ensures.within, c.receive.auto.buf))
+    (rw c.in-Ok-Done.field-0-is at (c.in-Ok-Done.ensures.settles c.args.reader.now.to_head i.0 i.1.stands)))
 
 pub returns-in-Ok-Fault-clause-comes : goal.returns-in-Ok-Fault-clause-comes
 returns-in-Ok-Fault-clause-comes g c =
