@@ -54,9 +54,9 @@ returns-in-Ok-Done-clause-over g c = λ head given reads.
     let i = c.pieces.invariant.so_far head given reads in
     let within = rw c.in-Ready-Ok.field-0-is at c.in-Ready-Ok.ensures.within in
     let size = length-take-le c.in-Ready-Ok.size c.poll_receive.new.buf within in
-    reads_to _ head given _ (take c.in-Ready-Ok.size c.poll_receive.new.buf) _ _ _ (Ok c.in-Ok-Done.response) i (rw c.in-Ready-Ok.field-0-is at c.in-Ready-Ok.ensures.receives)
+    rw c.into_inner.ensures (reads_to _ head given _ (take c.in-Ready-Ok.size c.poll_receive.new.buf) _ _ _ (Ok c.in-Ok-Done.response.value) i (rw c.in-Ready-Ok.field-0-is at c.in-Ready-Ok.ensures.receives)
     (omega (arith, size, within, c.poll_receive.auto.buf, c.pieces.invariant.size, c.requires.few))
-    (rw c.in-Ok-Done.field-0-is at (c.in-Ok-Done.ensures.settles head (given ++ i.0.more) i.0.reads.stands))
+    (rw c.in-Ok-Done.field-0-is at (c.in-Ok-Done.ensures.settles head (given ++ i.0.more) i.0.reads.stands)))
 
 pub returns-in-Ok-Fault-clause-over : goal.returns-in-Ok-Fault-clause-over
 returns-in-Ok-Fault-clause-over g c = λ head given reads.
