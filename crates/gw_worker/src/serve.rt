@@ -165,7 +165,7 @@ fn serve<K: Link, U: Upstream>(
     let mut buffer = [0; MOST_PIECE];
     let mut taken = 0;
     'pieces: loop {
-        let piece = &mut buffer[..conn.piece_size()];
+        let piece = conn.piece_of(&mut buffer);
         let size = match link.read(piece) {
             Ok(size) => size,
             Err(_) => return Err(ConnFault::Read),
@@ -179,17 +179,19 @@ fn serve<K: Link, U: Upstream>(
 }
 
 impl Conn {
-    // How many bytes the next read is asked for. Of a body of an announced size no more than is missing, so that its bytes come without
-    // those of the next request, and are handed on without a copy.
-    fn piece_size(&self) -> usize
-        ensures some { 0 < result }
-        ensures few { result ≤ MOST_PIECE }
+    // The front of the buffer, of as many bytes as the next read is asked for. Of a body of an announced size these are no more than are
+    // missing, so that they come without those of the next request, and are handed on without a copy.
+    fn piece_of<'b>(&self, buffer: &'b mut [u8]) -> &'b mut [u8]
+        requires { length buffer.old ≡ MOST_PIECE }
+        ensures some { 0 < length result.now }
+        ensures few { length result.now ≤ MOST_PIECE }
     {
-        match self.inlet.missing() {
+        let size = match self.inlet.missing() {
             None => HEAD_PIECE,
             Some(0) => MOST_PIECE,
             Some(missing) => missing.min(MOST_PIECE),
-        }
+        };
+        &mut buffer[..size]
     }
 
     /// Takes the next bytes, of which an empty piece is the end, and serves all requests that are whole: sends them to backends, and
