@@ -7,7 +7,7 @@ use Rattle.gw_requests.proofs.request.take_step.Goals as goal
 pub returns-in_ok-push-in-Ask-clause-took : goal.returns-in_ok-push-in-Ask-clause-took
 returns-in_ok-push-in-Ask-clause-took c = λ bytes gave.
     let so = c.in_ok-request.ensures in (
-      rw c.in_ok-push-in-Ask.ensures.items (gave_more _ _ bytes _ _ (c.in-Ask.request ∷ []) (rw c.in-Ask.is refl) so.stays so.stands gave),
+      rw (c.in_ok-push-in-Ask.ensures.items, c.into_inner.ensures) (gave_more _ _ bytes _ _ (c.in-Ask.request.value ∷ []) (rw c.in-Ask.is refl) so.stays so.stands gave),
       gave_fewer c.args.inlet.now c.next.new.self bytes _ _ (steps.Ask c.in-Ask.request) c.in-Ask.is so.fewer gave,
     )
 

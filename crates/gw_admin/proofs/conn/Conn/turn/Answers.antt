@@ -42,7 +42,7 @@ returns-in_err-write-in-Continue-clause-broke g c = on_err c.from_residual-in_er
 pub returns-in_ok-reply-in-Ask-clause-turned : goal.returns-in_ok-reply-in-Ask-clause-turned
 returns-in_ok-reply-in-Ask-clause-turned g c = λ bytes parts r.
     c.in_ok-reply-in-Ask.ensures.turned bytes parts (record {
-      inlet = step_behind c.next.new.self bytes (map step_of parts) (steps.Ask c.in-Ask.request) r.unended (rw c.in-Ask.is at (c.in_ok-next.ensures.stands bytes (map step_of parts) r.stands.inlet));
+      inlet = rw c.deref.ensures (step_behind c.next.new.self bytes (map step_of parts) (steps.Ask c.in-Ask.request) r.unended (rw c.in-Ask.is at (c.in_ok-next.ensures.stands bytes (map step_of parts) r.stands.inlet)));
       asks = r.stands.asks;
       unended = r.unended;
     })
@@ -50,7 +50,7 @@ returns-in_ok-reply-in-Ask-clause-turned g c = λ bytes parts r.
 pub returns-in_err-reply-in-Ask-clause-broke : goal.returns-in_err-reply-in-Ask-clause-broke
 returns-in_err-reply-in-Ask-clause-broke g c = on_err c.from_residual-in_err-reply-in-Ask.result (λ bytes parts r.
     c.in_err-reply-in-Ask.ensures.broke bytes parts (record {
-      inlet = step_behind c.next.new.self bytes (map step_of parts) (steps.Ask c.in-Ask.request) r.unended (rw c.in-Ask.is at (c.in_ok-next.ensures.stands bytes (map step_of parts) r.stands.inlet));
+      inlet = rw c.deref.ensures (step_behind c.next.new.self bytes (map step_of parts) (steps.Ask c.in-Ask.request) r.unended (rw c.in-Ask.is at (c.in_ok-next.ensures.stands bytes (map step_of parts) r.stands.inlet)));
       asks = r.stands.asks;
       unended = r.unended;
     }))

@@ -59,7 +59,7 @@ returns-in_err-announce-in-Continue-clause-inlet c =
 pub returns-in-Ask-clause-goes : goal.returns-in-Ask-clause-goes
 returns-in-Ask-clause-goes c = ok_with c.handle.result (λ turn goes p bytes parts text at s.
     goes p bytes parts text at
-    (behind_step c.args.self.now c.next.new.self (steps.Ask c.in-Ask.request) (an_ask c.in-Ask.request) p bytes parts text (rw c.in-Ask.is at c.in_ok-next.ensures.stands) refl c.requires.reading s))
+    (rw c.deref.ensures (behind_step c.args.self.now c.next.new.self (steps.Ask c.in-Ask.request) (an_ask c.in-Ask.request.value) p bytes parts text (rw c.in-Ask.is at c.in_ok-next.ensures.stands) refl c.requires.reading s)))
     c.handle.ensures.goes
 
 pub returns-in-Ask-clause-unfinished : goal.returns-in-Ask-clause-unfinished
@@ -142,9 +142,9 @@ returns-in_err-announce-in-Continue-clause-err c = on_err c.from_residual-in_err
 
 pub returns-in-Ask-clause-err : goal.returns-in-Ask-clause-err
 returns-in-Ask-clause-err c = on_err_weaker c.handle.result (λ left p bytes parts text at s. record {
-  steps = an_ask c.in-Ask.request ∷ [];
-  inlet = subst (λ (k : Inlet). InletStandsFor k bytes (map step_of parts ++ an_ask c.in-Ask.request ∷ [])) (sym c.handle.ensures.inlet)
-      (behind_step c.args.self.now c.next.new.self (steps.Ask c.in-Ask.request) (an_ask c.in-Ask.request) p bytes parts text (rw c.in-Ask.is at c.in_ok-next.ensures.stands) refl c.requires.reading s).inlet;
+  steps = an_ask c.deref.result.now ∷ [];
+  inlet = subst (λ (k : Inlet). InletStandsFor k bytes (map step_of parts ++ an_ask c.deref.result.now ∷ [])) (sym c.handle.ensures.inlet)
+      (rw c.deref.ensures (behind_step c.args.self.now c.next.new.self (steps.Ask c.in-Ask.request) (an_ask c.in-Ask.request.value) p bytes parts text (rw c.in-Ask.is at c.in_ok-next.ensures.stands) refl c.requires.reading s).inlet);
   left = record { left = left p at (sym s.door); once = inl refl };
 }) c.handle.ensures.err
 
