@@ -57,6 +57,3 @@ fn main(rt: HostRuntime) -> ExitCode {
         &mut SnapFaults::new(),
     ))
 }
-
-#[cfg(test)]
-mod tests;

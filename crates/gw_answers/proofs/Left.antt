@@ -1,5 +1,5 @@
 -- What is left of the books where memory is wanted behind a pick.
-use Rattle.std.proofs.Common.{◌≡◌, ℕ, ◌⊎◌, List, [], Option, Some, None, Result, Ok, Err, OnErr, inl, inr, refl, sym, ◌∙◌}
+use Rattle.std.proofs.Common.{◌≡◌, ℕ, ◌⊎◌, List, [], Option, Some, None, Result, Ok, Err, OnErr, inl, inr, refl, sym}
 use Rattle.gw_text.specs.model.References.{BackendState, invalid_kind, not_permitted, not_found, bad_protocol, no_endpoints, ready}
 use Rattle.gw_text.specs.model.Plans.{Backend}
 use Rattle.gw_answers.specs.declared.books.Books.{Books}
@@ -21,14 +21,6 @@ backends_stay books b (ready sockets) = refl
 -- All was picked.
 pub as_after : (before after : Books) → AreLeft before after after
 as_after before after = record { backends = inr (inl refl); endpoints = inr (inl refl) }
-
--- The backend was picked, and then what is left is said of the endpoint.
-pub behind_backend : (before middle after left : Books) → middle.endpoints ≡ before.endpoints → after.backends ≡ middle.backends
-    → AreLeft middle after left → AreLeft before after left
-behind_backend before middle after left endpoints backends is = record {
-  backends = elim is.backends [ inl same ↦ inr (inl (same ∙ sym backends)) | inr more ↦ inr more ];
-  endpoints = elim is.endpoints [ inl same ↦ inl (same ∙ endpoints) | inr more ↦ inr more ];
-}
 
 -- The backend was picked, and no endpoint.
 pub behind_pick : (before : Books) (backends : List (Choice × List ℕ)) (b : Option Backend)

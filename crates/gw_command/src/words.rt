@@ -1,5 +1,5 @@
 ghost use Rattle.std.specs.Prelude.{◌≡◌, ◌*◌, ◌^◌, ◌<◌, ◌≤◌, true, false, codes, length, IfOk, map, option_map, string_bytes};
-ghost use Rattle.clap.specs.Words.{app_of, rule_of, all_of, first_of, found_of, is_simple, rows_of};
+ghost use Rattle.clap.specs.Words.{app_of, rule_of, all_of, first_of, found_of, is_simple, rows_of, with_rule};
 ghost use Rattle.clap.specs.Faults.{is_simple_and_free};
 ghost use Rattle.gw_command.specs.Readings.{IsWithin, Reads, seen};
 ghost use Rattle.gw_text.specs.model.Doors.{door_of, loopback_of};
@@ -250,66 +250,80 @@ fn read_serve(alloc: Global, words: &[String]) -> Result<ServeWords, UsageFault>
 fn status_command<'a>(alloc: Global) -> Result<clap::Command<'a>, AllocError>
     ensures { IfOk result (λ c. app_of c ≡ words_of.status_app) }
 {
-    let controller = value(alloc, "controller");
-    clap::Command::new(alloc, "status")
-        .arg(controller)?
-        .arg(door(alloc))
+    let command = clap::Command::new(alloc, "status");
+    let with_controller = with_value(alloc, command, "controller")?;
+    with_door(alloc, with_controller)
 }
 
 fn explain_command<'a>(alloc: Global) -> Result<clap::Command<'a>, AllocError>
     ensures { IfOk result (λ c. app_of c ≡ words_of.explain_app) }
 {
-    clap::Command::new(alloc, "explain")
-        .arg(value(alloc, "controller"))?
-        .arg(value(alloc, "at"))?
-        .arg(value(alloc, "request"))?
-        .arg(door(alloc))
+    let command = clap::Command::new(alloc, "explain");
+    let with_controller = with_value(alloc, command, "controller")?;
+    let with_at = with_value(alloc, with_controller, "at")?;
+    let with_request = with_value(alloc, with_at, "request")?;
+    with_door(alloc, with_request)
 }
 
 fn replay_command<'a>(alloc: Global) -> Result<clap::Command<'a>, AllocError>
     ensures { IfOk result (λ c. app_of c ≡ words_of.replay_app) }
 {
-    clap::Command::new(alloc, "replay")
-        .arg(value(alloc, "controller"))?
-        .arg(value(alloc, "workers"))?
-        .arg(flag(alloc, "polled"))?
-        .arg(door(alloc))
+    let command = clap::Command::new(alloc, "replay");
+    let with_controller = with_value(alloc, command, "controller")?;
+    let with_workers = with_value(alloc, with_controller, "workers")?;
+    let with_polled = with_flag(alloc, with_workers, "polled")?;
+    with_door(alloc, with_polled)
 }
 
 fn generate_command<'a>(alloc: Global) -> Result<clap::Command<'a>, AllocError>
     ensures { IfOk result (λ c. app_of c ≡ words_of.generate_app) }
 {
-    clap::Command::new(alloc, "generate")
-        .arg(value(alloc, "seed"))?
-        .arg(value(alloc, "routes"))?
-        .arg(value(alloc, "requests"))?
-        .arg(flag(alloc, "run"))
+    let command = clap::Command::new(alloc, "generate");
+    let with_seed = with_value(alloc, command, "seed")?;
+    let with_routes = with_value(alloc, with_seed, "routes")?;
+    let with_requests = with_value(alloc, with_routes, "requests")?;
+    with_flag(alloc, with_requests, "run")
 }
 
 fn serve_command<'a>(alloc: Global) -> Result<clap::Command<'a>, AllocError>
     ensures { IfOk result (λ c. app_of c ≡ words_of.serve_app) }
 {
-    let command = serve_options(alloc)?;
+    let command = clap::Command::new(alloc, "serve");
+    let with_controller = with_value(alloc, command, "controller")?;
+    let with_workers = with_value(alloc, with_controller, "workers")?;
+    let with_conns = with_value(alloc, with_workers, "conns")?;
+    let with_admin = with_value(alloc, with_conns, "admin")?;
+    let with_polled = with_flag(alloc, with_admin, "polled")?;
+    with_door(alloc, with_polled)
+}
+
+// The command with the option of this name.
+fn with_value<'a>(
+    alloc: Global,
+    command: clap::Command<'a>,
+    name: &'a str,
+) -> Result<clap::Command<'a>, AllocError>
+    ensures { IfOk result (λ c. app_of c ≡ with_rule (app_of command.entry) (words_of.value_rule name.entry.now)) }
+{
+    command.arg(value(alloc, name))
+}
+
+// The command with the flag of this name.
+fn with_flag<'a>(
+    alloc: Global,
+    command: clap::Command<'a>,
+    name: &'a str,
+) -> Result<clap::Command<'a>, AllocError>
+    ensures { IfOk result (λ c. app_of c ≡ with_rule (app_of command.entry) (words_of.flag_rule name.entry.now)) }
+{
+    command.arg(flag(alloc, name))
+}
+
+// The command with its DOORs.
+fn with_door<'a>(alloc: Global, command: clap::Command<'a>) -> Result<clap::Command<'a>, AllocError>
+    ensures { IfOk result (λ c. app_of c ≡ with_rule (app_of command.entry) words_of.door_rule) }
+{
     command.arg(door(alloc))
-}
-
-// The command without its DOORs.
-fn serve_options<'a>(alloc: Global) -> Result<clap::Command<'a>, AllocError>
-    ensures { IfOk result (λ c. app_of c ≡ words_of.serve_options_app) }
-{
-    let command = serve_values(alloc)?;
-    command.arg(flag(alloc, "polled"))
-}
-
-// The command without its DOORs and its flag.
-fn serve_values<'a>(alloc: Global) -> Result<clap::Command<'a>, AllocError>
-    ensures { IfOk result (λ c. app_of c ≡ words_of.serve_values_app) }
-{
-    clap::Command::new(alloc, "serve")
-        .arg(value(alloc, "controller"))?
-        .arg(value(alloc, "workers"))?
-        .arg(value(alloc, "conns"))?
-        .arg(value(alloc, "admin"))
 }
 
 fn value<'a>(alloc: Global, name: &'a str) -> Arg<'a>

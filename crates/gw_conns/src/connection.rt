@@ -7,6 +7,7 @@ ghost use Rattle.gw_polling.specs.PollMemory.{first_poll, has_marks};
 ghost use Rattle.gw_snap.specs.Lists.{BeginsWith};
 ghost use Rattle.gw_worker.specs.Conns.{IsServing, StandsFor};
 ghost use Rattle.gw_worker.specs.Flows.{Served as IsServed, outside};
+ghost use Rattle.gw_worker.specs.Stays.{PassStays};
 ghost use Rattle.gw_worker.specs.Workers.{IsAt};
 ghost use Rattle.gw_worker.specs.model.Sessions.{Part, Place};
 ghost use Rattle.gw_conns.specs.Standing.{IsReady, IsServedBy, Stands, conn_of, is_polled};
@@ -106,9 +107,7 @@ fn call(
     ensures becomes { OnOk result (Becomes backends.old backends.new) }
     ensures starved { OnOk result (backends.new.starved ≡ backends.old.starved) }
     ensures refused { result ≡ Err OpenFault.Place → 0 < worker.new.pass.refused }
-    ensures later { BeginsWith worker.old.pass.seen worker.new.pass.seen }
-    ensures fixed { worker.new.pass.fixed ≡ worker.old.pass.fixed }
-    ensures book { worker.new.pass.book ≡ worker.old.pass.book }
+    ensures pass { PassStays worker.old worker.new }
 {
     let mut link = no_bytes(alloc);
     let flow = take(conn, worker, piece, &mut link, backends)?;
@@ -143,9 +142,7 @@ fn take(
     ensures becomes { Becomes backends.old backends.new }
     ensures starved { OnOk result (backends.new.starved ≡ backends.old.starved) }
     ensures refused { result ≡ Err OpenFault.Place → 0 < worker.new.pass.refused }
-    ensures later { BeginsWith worker.old.pass.seen worker.new.pass.seen }
-    ensures fixed { worker.new.pass.fixed ≡ worker.old.pass.fixed }
-    ensures book { worker.new.pass.book ≡ worker.old.pass.book }
+    ensures pass { PassStays worker.old worker.new }
 {
     let starved = backends.starved();
     match conn.take(worker, piece, link, backends) {
@@ -175,9 +172,7 @@ fn poll_once<W: Wait + RandomSource + AllocGlobal>(
     ensures becomes { OnOk result (Becomes backends.old backends.new) }
     ensures starved { OnOk result (backends.new.starved ≡ backends.old.starved) }
     ensures refused { result ≡ Err OpenFault.Place → 0 < worker.new.pass.refused }
-    ensures later { BeginsWith worker.old.pass.seen worker.new.pass.seen }
-    ensures fixed { worker.new.pass.fixed ≡ worker.old.pass.fixed }
-    ensures book { worker.new.pass.book ≡ worker.old.pass.book }
+    ensures pass { PassStays worker.old worker.new }
 {
     let queue = queue_of(rt)?;
     let Some(mut cx) = queue.next(rt) else {
@@ -221,9 +216,7 @@ fn poll(
     ensures becomes { OnOk result (Becomes backends.old backends.new) }
     ensures starved { OnOk result (backends.new.starved ≡ backends.old.starved) }
     ensures refused { result ≡ Err OpenFault.Place → 0 < worker.new.pass.refused }
-    ensures later { BeginsWith worker.old.pass.seen worker.new.pass.seen }
-    ensures fixed { worker.new.pass.fixed ≡ worker.old.pass.fixed }
-    ensures book { worker.new.pass.book ≡ worker.old.pass.book }
+    ensures pass { PassStays worker.old worker.new }
 {
     let starved = backends.starved();
     let link = link_of(alloc, piece)?;

@@ -11,7 +11,7 @@ ghost use Rattle.gw_deps.specs.Indexes as indexes;
 ghost use Rattle.gw_deps.specs.Indexes.{AreAlike, AreEdges, AreExchanges, HasKey, Replaces};
 
 use crate::edge::Edge;
-use crate::find::find;
+use crate::lookup::find;
 use crate::object_edges::{RouteEdges, class_edges, route_edges};
 use crate::sorted::Sorted;
 use gw_objects::Gateway;

@@ -3,10 +3,10 @@
 
 mod edge;
 mod exchange;
-mod find;
 mod index;
 mod key;
 mod keys;
+mod lookup;
 mod object_edges;
 mod sorted;
 mod touching;
@@ -14,5 +14,6 @@ mod touching;
 pub use index::{Index, IndexPatch};
 pub use key::SharedKey;
 pub use keys::{Keys, Touched};
+pub use lookup::find;
 pub use sorted::{Ordered, Sorted};
 pub use touching::touched;

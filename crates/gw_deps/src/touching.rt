@@ -12,10 +12,10 @@ ghost use Rattle.gw_deps.specs.Indexes.{IsIndexOf};
 ghost use Rattle.gw_deps.specs.Touching.{AreTouched, AreTouchedIn, depends_on_slice, has_held_parent, is_held_parent, is_some_with};
 
 use crate::edge::{Edge, edges_from};
-use crate::find::find;
 use crate::index::Index;
 use crate::key::SharedKey;
 use crate::keys::{Keys, Touched};
+use crate::lookup::find;
 use crate::object_edges::service_name;
 use crate::sorted::Sorted;
 use gw_objects::EndpointSlice;

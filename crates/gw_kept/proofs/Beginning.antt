@@ -5,8 +5,8 @@ use Rattle.std.proofs.lemmas.List.Elements.{All-cons, All-nil}
 use Rattle.gw_text.specs.model.Doors.{Door}
 use Rattle.gw_text.specs.model.Statuses.{RouteStatus}
 use Rattle.gw_eval.specs.Kept.{KeptRoute}
-use Rattle.gw_counts.specs.Counts.{AreCounts}
-use Rattle.gw_counts.specs.declared.counts.Counts.{Counts}
+use Rattle.gw_kept.specs.Counts.{AreCounts}
+use Rattle.gw_kept.specs.declared.counts.Counts.{Counts}
 use Rattle.gw_kept.specs.Held.{DoorTables, IsEvaluated, IsHeld, IsOf, ServedDoor, door_alone, kept_route_key, served_by, without_listeners}
 use Rattle.gw_kept.specs.Places.{IsInOrder}
 

@@ -15,8 +15,8 @@ use Rattle.gw_rows.specs.model.Rows.{Row, Rows, ServedListener}
 use Rattle.gw_eval.specs.Candidates.{kept_rows}
 use Rattle.gw_eval.specs.Kept.{KeptRoute, is_kept_at, kept_route_at, kept_route_of, kept_routes_of}
 use Rattle.gw_eval.proofs.Keeping.{plan_for_each, rows_of_kept}
-use Rattle.gw_counts.specs.Counts.{AreCounts}
-use Rattle.gw_counts.specs.declared.counts.Counts.{Counts}
+use Rattle.gw_kept.specs.Counts.{AreCounts}
+use Rattle.gw_kept.specs.declared.counts.Counts.{Counts}
 use Rattle.gw_match.specs.model.Listed.{AreOfOneDoor, AreRowsOf, Listed, rows_in, rows_with}
 use Rattle.gw_match.specs.model.ListedOf.{listed_at, listed_of}
 use Rattle.gw_match.proofs.DoorRows.{rows_of_worlds, tables_have_rows, tables_of_one_door}

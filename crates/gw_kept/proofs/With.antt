@@ -4,8 +4,8 @@ use Rattle.std.specs.Prelude.{if◌then◌else◌}
 use Rattle.gw_text.specs.model.Names.{Key, same_key}
 use Rattle.gw_text.specs.model.Statuses.{RouteStatus}
 use Rattle.gw_eval.specs.Kept.{KeptRoute}
-use Rattle.gw_counts.specs.Counts.{AreCounts}
-use Rattle.gw_counts.specs.declared.counts.Counts.{Counts}
+use Rattle.gw_kept.specs.Counts.{AreCounts}
+use Rattle.gw_kept.specs.declared.counts.Counts.{Counts}
 use Rattle.gw_kept.proofs.Holding.{all_option, all_with, counts_parts, counts_with, doors_after, doors_take, has_rows, served_same}
 use Rattle.gw_kept.proofs.Ordering.{map_option, map_with, ordered_with}
 use Rattle.gw_kept.proofs.Turning.{found_with, standing}

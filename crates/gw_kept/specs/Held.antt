@@ -8,8 +8,8 @@ use Rattle.gw_rows.specs.model.DoorRows.{served_at}
 use Rattle.gw_rows.specs.model.Rows.{Row, ServedListener}
 use Rattle.gw_eval.specs.Candidates.{kept_rows}
 use Rattle.gw_eval.specs.Kept.{KeptRoute, kept_route_of}
-use Rattle.gw_counts.specs.Counts.{AreCounts}
-use Rattle.gw_counts.specs.declared.counts.Counts.{Counts}
+use Rattle.gw_kept.specs.Counts.{AreCounts}
+use Rattle.gw_kept.specs.declared.counts.Counts.{Counts}
 use Rattle.gw_match.specs.model.Listed.{AreRowsOf, Listed, rows_in}
 use Rattle.gw_kept.specs.Places.{IsInOrder, with_at, behind}
 use Rattle.gw_kept.specs.declared.place.Place.{Place}

@@ -1,2 +1,5 @@
+pub mod Changes
+pub mod Counts
 pub mod Held
+pub mod Numbers
 pub mod Places

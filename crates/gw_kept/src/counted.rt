@@ -1,10 +1,10 @@
 //! How many Routes are attached to the listeners of a Gateway.
 ghost use Rattle.std.specs.Prelude.{◌≡◌, ◌<◌, ◌++◌, ℕ, List, IfOk, IfSome, OnOk, length, get_or, option_copied, option_to_list};
-ghost use Rattle.gw_counts.specs.Counts.{AreCounts, number_at};
+ghost use Rattle.gw_kept.specs.Counts.{AreCounts, number_at};
 ghost use Rattle.gw_eval.specs.Kept.{KeptRoute as Plain};
 ghost use Rattle.gw_text.specs.model.World.{gateway_at};
 
-use gw_counts::Counts;
+use crate::counts::Counts;
 use gw_eval::KeptRoute;
 use gw_store::World;
 use gw_text::{Key, NoMemory};

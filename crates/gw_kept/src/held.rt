@@ -13,10 +13,10 @@ ghost use Rattle.gw_text.specs.model.Names.{Key as PlainKey, same_key};
 
 use crate::changed::with_at;
 use crate::counted::{changed_counts, numbers_of};
+use crate::counts::Counts;
 use crate::door::{HeldDoor, shared_tables};
 use crate::place::{Place, place_in};
 use crate::served::served_anew;
-use gw_counts::Counts;
 use gw_eval::{KeptRoute, eval_counted_gateway, eval_kept_route};
 use gw_match::DoorTable;
 use gw_shared::{Shared, SharedList};

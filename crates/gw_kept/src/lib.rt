@@ -3,12 +3,16 @@
 //! shares the rest.
 #![tactic(auto)]
 
+mod change;
 mod changed;
 mod counted;
+mod counts;
 mod door;
 mod held;
 mod kept;
 mod listener;
+mod listener_numbers;
+mod maps;
 mod place;
 mod served;
 

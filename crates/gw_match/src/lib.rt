@@ -12,10 +12,7 @@ mod route_rows;
 mod table;
 mod tables;
 
-pub use laws::{
-    rows_of_a_door_stand_listener_by_listener, rows_of_a_listener_are_its_own_and_apart,
-    tables_are_of_one_door, tables_have_the_rows_of_the_door,
-};
+pub use laws::rows_of_a_door_stand_listener_by_listener;
 pub use listener_table::ListenerTable;
 pub use route_rows::RouteRows;
 pub use table::DoorTable;

@@ -4,6 +4,7 @@ pub mod Going
 pub mod Stepping
 pub mod Keeping
 pub mod Waiting
+pub mod Staying
 pub mod Lone
 pub mod Orders
 pub mod Crowding

@@ -6,13 +6,13 @@ ghost use Rattle.gw_exchange.specs.declared.backend.TheConstants.{MOST_PIECE};
 ghost use Rattle.gw_frames.specs.Inlets.{is_over};
 ghost use Rattle.gw_link.specs.Exchanges.{Exchange, change_last};
 ghost use Rattle.gw_link.specs.Faults.{HasRisen};
-ghost use Rattle.gw_link.specs.Pieces.{Keeps};
-ghost use Rattle.gw_polling.specs.Polls.{IfDone, OnDone, OnFailed, HasNoMark, NoneCame, IsUsedUp};
+ghost use Rattle.gw_polling.specs.Polls.{IfDone, OnDone, OnFailed, HasNoMark, IsUsedUp};
 ghost use Rattle.gw_poll_exchange.specs.Polled.{IsJoined};
-ghost use Rattle.gw_snap.specs.Lists.{BeginsWith};
+ghost use Rattle.gw_poll_exchange.specs.Stays.{UpstreamStays};
 ghost use Rattle.gw_text.specs.model.Addresses.{Socket as Address};
 ghost use Rattle.gw_worker.specs.Conns.{IsAsking, IsFed, IsSettled, StandsFor, turns_left, with_answer};
 ghost use Rattle.gw_worker.specs.Flows.{Outside, outside};
+ghost use Rattle.gw_worker.specs.Stays.{PassStays};
 ghost use Rattle.gw_worker.specs.Workers.{IsAt};
 ghost use Rattle.gw_worker.specs.declared.conn.Stage.TheVariants.{Ended as HasEnded};
 ghost use Rattle.gw_worker.specs.model.Sessions.{Part, Place};
@@ -20,6 +20,7 @@ ghost use Rattle.gw_worker.specs.model.Workers.{Worker as PlainWorker};
 ghost use Rattle.gw_poll.specs.Causes.{OnGoing, IfFailed, HasCause, CountsRefusedIn, HasWaited};
 ghost use Rattle.gw_poll.specs.Courses.{CanGoOn, Follows, GivesUp, GoesTo, HasBegun, IsGoing, IsHeld, IsIdle, IsReplied, steps_left};
 ghost use Rattle.gw_poll.specs.Histories.{History, IsSession, no_call, no_history};
+ghost use Rattle.gw_poll.specs.Stays.{LinkGoesOn, LinkStays};
 
 use futures::task::{Context, Poll};
 use gw_exchange::{ExchangeFault, MOST_PIECE};
@@ -110,24 +111,14 @@ impl Course {
         ensures idle { OnPending result (HasNoMark (K.marks link.old) → HasNoMark (U.marks up.old) → IsIdle self.new) }
         ensures over { OnGoing result (is_over self.new.conn.inlet ≡ true
             → (is_over self.old.conn.inlet ≡ true) ⊎ IfSome (K.end link.old) (λ told. IfSome (K.end link.new) (λ has_end. has_end ≡ true))) }
-        ensures unended { Keeps (K.end link.old) (K.end link.new) }
         ensures cause { IfFailed result (HasCause (K.faults link.old) (K.faults link.new)) }
         ensures waits { OnPending result (HasWaited cx.new (K.source link.new) (K.read_waits link.old) (K.read_waits link.new)
             ⊎ (HasWaited cx.new (K.source link.new) (K.write_waits link.old) (K.write_waits link.new)
             ⊎ HasWaited cx.new (U.source up.new) (U.waits up.old) (U.waits up.new))) }
-        ensures later { BeginsWith w.old.pass.seen w.new.pass.seen }
-        ensures fixed { w.new.pass.fixed ≡ w.old.pass.fixed }
-        ensures book { w.new.pass.book ≡ w.old.pass.book }
+        ensures pass { PassStays w.old w.new }
         ensures refused { CountsRefusedIn result w.old.pass.refused w.new.pass.refused }
-        ensures ahead { w.new.pass.ahead ≡ w.old.pass.ahead }
-        ensures link_later { K.faults link.old ≤ K.faults link.new }
-        ensures link_unmarked { NoneCame (K.marks link.old) (K.marks link.new) }
-        ensures link_same { K.source link.new ≡ K.source link.old }
-        ensures up_later { U.faults up.old ≤ U.faults up.new }
-        ensures up_waits { U.waits up.old ≤ U.waits up.new }
-        ensures up_unmarked { NoneCame (U.marks up.old) (U.marks up.new) }
-        ensures up_same { U.source up.new ≡ U.source up.old }
-        ensures becomes { U.becomes up.old up.new }
+        ensures link { LinkGoesOn K.PollLink link.old link.new }
+        ensures up { UpstreamStays U.PollUpstream up.old up.new }
         ensures task { KeepsTask cx.old cx.new }
         ensures door { self.new.conn.door ≡ self.old.conn.door }
     {
@@ -169,16 +160,11 @@ impl Course {
         ensures within { IfDone result (λ size. size ≤ length buffer.new) }
         ensures over { IfDone result (λ size. is_over self.new.conn.inlet ≡ (size == 0)) }
         ensures ends { result ≡ Poll.Ready (Ok 0) → IfSome (K.end link.new) (λ has_end. has_end ≡ true) }
-        ensures unended { Keeps (K.end link.old) (K.end link.new) }
         ensures cause { IfFailed result (HasCause (K.faults link.old) (K.faults link.new)) }
         ensures no_place { IfFailed result (λ fault. fault ≡ ConnFault.Place → ⊥) }
         ensures waits { OnPending result (HasWaited cx.new (K.source link.new) (K.read_waits link.old) (K.read_waits link.new)) }
         ensures ready { OnPending result (HasNoMark (K.marks link.old) → IsUsedUp (K.left link.new) (K.end link.new)) }
-        ensures link_later { K.faults link.old ≤ K.faults link.new }
-        ensures read_waits { K.read_waits link.old ≤ K.read_waits link.new }
-        ensures unwritten_waits { K.write_waits link.new ≡ K.write_waits link.old }
-        ensures link_unmarked { NoneCame (K.marks link.old) (K.marks link.new) }
-        ensures link_same { K.source link.new ≡ K.source link.old }
+        ensures link { LinkGoesOn K.PollLink link.old link.new }
         ensures task { KeepsTask cx.old cx.new }
         ensures door { self.new.conn.door ≡ self.old.conn.door }
     {
@@ -217,23 +203,10 @@ impl Course {
         ensures ready { OnPending result (HasNoMark (K.marks link.old) → ¬ HasNoMark (U.marks up.old)) }
         ensures more { result ≡ Poll.Ready (Ok Flow.More) → self.new.stage ≡ Stage.Reading }
         ensures ended { IfDone result (λ flow. (why : Ended) → flow ≡ Flow.Ended why → (self.new.stage ≡ Stage.Turning) × (self.new.conn.stage ≡ HasEnded why)) }
-        ensures later { BeginsWith w.old.pass.seen w.new.pass.seen }
-        ensures fixed { w.new.pass.fixed ≡ w.old.pass.fixed }
-        ensures book { w.new.pass.book ≡ w.old.pass.book }
+        ensures pass { PassStays w.old w.new }
         ensures refused { CountsRefusedIn result w.old.pass.refused w.new.pass.refused }
-        ensures ahead { w.new.pass.ahead ≡ w.old.pass.ahead }
-        ensures link_later { K.faults link.old ≤ K.faults link.new }
-        ensures unread_waits { K.read_waits link.new ≡ K.read_waits link.old }
-        ensures write_waits { K.write_waits link.old ≤ K.write_waits link.new }
-        ensures link_unmarked { NoneCame (K.marks link.old) (K.marks link.new) }
-        ensures unread { Keeps (K.left link.old) (K.left link.new) }
-        ensures unended { Keeps (K.end link.old) (K.end link.new) }
-        ensures link_same { K.source link.new ≡ K.source link.old }
-        ensures up_later { U.faults up.old ≤ U.faults up.new }
-        ensures up_waits { U.waits up.old ≤ U.waits up.new }
-        ensures up_unmarked { NoneCame (U.marks up.old) (U.marks up.new) }
-        ensures up_same { U.source up.new ≡ U.source up.old }
-        ensures becomes { U.becomes up.old up.new }
+        ensures link { LinkStays K.PollLink link.old link.new }
+        ensures up { UpstreamStays U.PollUpstream up.old up.new }
         ensures task { KeepsTask cx.old cx.new }
         ensures door { self.new.conn.door ≡ self.old.conn.door }
     {
@@ -276,23 +249,10 @@ impl Course {
         ensures more { result ≡ Poll.Ready (Ok (Some Flow.More)) → self.new.stage ≡ Stage.Reading }
         ensures ended { IfDone result (λ flow. (why : Ended) → flow ≡ Some (Flow.Ended why) → (self.new.stage ≡ Stage.Turning) × (self.new.conn.stage ≡ HasEnded why)) }
         ensures fewer { result ≡ Poll.Ready (Ok None) → (bytes : List ℕ) → IsGoing self.old bytes → steps_left self.new < steps_left self.old }
-        ensures later { BeginsWith w.old.pass.seen w.new.pass.seen }
-        ensures fixed { w.new.pass.fixed ≡ w.old.pass.fixed }
-        ensures book { w.new.pass.book ≡ w.old.pass.book }
+        ensures pass { PassStays w.old w.new }
         ensures refused { CountsRefusedIn result w.old.pass.refused w.new.pass.refused }
-        ensures ahead { w.new.pass.ahead ≡ w.old.pass.ahead }
-        ensures link_later { K.faults link.old ≤ K.faults link.new }
-        ensures unread_waits { K.read_waits link.new ≡ K.read_waits link.old }
-        ensures write_waits { K.write_waits link.old ≤ K.write_waits link.new }
-        ensures link_unmarked { NoneCame (K.marks link.old) (K.marks link.new) }
-        ensures unread { Keeps (K.left link.old) (K.left link.new) }
-        ensures unended { Keeps (K.end link.old) (K.end link.new) }
-        ensures link_same { K.source link.new ≡ K.source link.old }
-        ensures up_later { U.faults up.old ≤ U.faults up.new }
-        ensures up_waits { U.waits up.old ≤ U.waits up.new }
-        ensures up_unmarked { NoneCame (U.marks up.old) (U.marks up.new) }
-        ensures up_same { U.source up.new ≡ U.source up.old }
-        ensures becomes { U.becomes up.old up.new }
+        ensures link { LinkStays K.PollLink link.old link.new }
+        ensures up { UpstreamStays U.PollUpstream up.old up.new }
         ensures task { KeepsTask cx.old cx.new }
         ensures door { self.new.conn.door ≡ self.old.conn.door }
     {
@@ -324,11 +284,8 @@ impl Course {
         ensures ended { IfDone result (λ flow. (why : Ended) → flow ≡ Some (Flow.Ended why) → (self.new.stage ≡ Stage.Turning) × (self.new.conn.stage ≡ HasEnded why)) }
         ensures fewer { result ≡ Poll.Ready (Ok None) → (bytes : List ℕ) → IsGoing self.old bytes → steps_left self.new < steps_left self.old }
         ensures cause { IfFailed result (λ fault. (fault ≡ ConnFault.Read → ⊥) × (fault ≡ ConnFault.Write → ⊥)) }
-        ensures later { BeginsWith w.old.pass.seen w.new.pass.seen }
-        ensures fixed { w.new.pass.fixed ≡ w.old.pass.fixed }
-        ensures book { w.new.pass.book ≡ w.old.pass.book }
+        ensures pass { PassStays w.old w.new }
         ensures refused { CountsRefusedIn result w.old.pass.refused w.new.pass.refused }
-        ensures ahead { w.new.pass.ahead ≡ w.old.pass.ahead }
         ensures door { self.new.conn.door ≡ self.old.conn.door }
     {
         match self.conn.next(w) {
@@ -382,13 +339,7 @@ impl Course {
         ensures cause { IfFailed result (λ fault. (fault ≡ ConnFault.Write) × HasRisen (K.faults link.old) (K.faults link.new)) }
         ensures waits { OnPending result (HasWaited cx.new (K.source link.new) (K.write_waits link.old) (K.write_waits link.new)) }
         ensures ready { OnPending result (¬ HasNoMark (K.marks link.old)) }
-        ensures link_later { K.faults link.old ≤ K.faults link.new }
-        ensures unread_waits { K.read_waits link.new ≡ K.read_waits link.old }
-        ensures write_waits { K.write_waits link.old ≤ K.write_waits link.new }
-        ensures link_unmarked { NoneCame (K.marks link.old) (K.marks link.new) }
-        ensures unread { Keeps (K.left link.old) (K.left link.new) }
-        ensures unended { Keeps (K.end link.old) (K.end link.new) }
-        ensures link_same { K.source link.new ≡ K.source link.old }
+        ensures link { LinkStays K.PollLink link.old link.new }
         ensures task { KeepsTask cx.old cx.new }
     {
         let mut at = at;
@@ -434,11 +385,7 @@ impl Course {
         ensures cause { IfFailed result (λ fault. fault ≡ ConnFault.NoMemory) }
         ensures waits { OnPending result (HasWaited cx.new (U.source up.new) (U.waits up.old) (U.waits up.new)) }
         ensures ready { OnPending result (¬ HasNoMark (U.marks up.old)) }
-        ensures up_later { U.faults up.old ≤ U.faults up.new }
-        ensures up_waits { U.waits up.old ≤ U.waits up.new }
-        ensures up_unmarked { NoneCame (U.marks up.old) (U.marks up.new) }
-        ensures up_same { U.source up.new ≡ U.source up.old }
-        ensures becomes { U.becomes up.old up.new }
+        ensures up { UpstreamStays U.PollUpstream up.old up.new }
         ensures task { KeepsTask cx.old cx.new }
         ensures door { self.new.conn.door ≡ self.old.conn.door }
     {

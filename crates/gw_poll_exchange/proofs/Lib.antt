@@ -1,3 +1,4 @@
 pub mod Telling
 pub mod Reading
 pub mod Ending
+pub mod Staying

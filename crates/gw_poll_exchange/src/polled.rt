@@ -8,6 +8,7 @@ ghost use Rattle.gw_link.specs.Exchanges.{Exchange};
 ghost use Rattle.gw_link.specs.Faults.{HasRisen};
 ghost use Rattle.gw_polling.specs.Polls.{CountsWaits, IsRegistered, HasNoMark, NoneCame};
 ghost use Rattle.gw_poll_exchange.specs.Polled.{StandsFor, IsJoined, GoesOn, IsOver, Reads, ReadsOn, ReadsTo};
+ghost use Rattle.gw_poll_exchange.specs.Stays.{UpstreamStays};
 
 use futures::task::{Context, Poll};
 use gw_exchange::{ExchangeFault, MOST_PIECE, step_of};
@@ -114,19 +115,16 @@ impl PolledExchange {
         ensures over { IfReady result (λ answer. (met : List Exchange) → StandsFor self.old met → IsOver self.old met (U.exchanges up.old) (U.exchanges up.new) answer) }
         ensures cause { IfReady result (λ answer. IsCallFault answer → HasRisen (U.faults up.old) (U.faults up.new)) }
         ensures refused { IfReady result (IsRefused (U.refuses up.old up.new) self.old.to) }
-        ensures later { U.faults up.old ≤ U.faults up.new }
+        ensures up { UpstreamStays U.PollUpstream up.old up.new }
         ensures waits { CountsWaits (U.waits up.old) (U.waits up.new) result }
         ensures registered { OnPending result (IsRegistered cx.new (U.source up.new)) }
         ensures ready { OnPending result (¬ HasNoMark (U.marks up.old)) }
-        ensures unmarked { NoneCame (U.marks up.old) (U.marks up.new) }
         ensures joined { OnPending result (IsJoined self.new.stage (U.at up.new) self.new.to) }
         ensures closed { IfReady result (λ answer. U.at up.new ≡ None) }
         ensures to { self.new.to ≡ self.old.to }
         ensures bytes { self.new.bytes ≡ self.old.bytes }
         ensures head { self.new.head ≡ self.old.head }
         ensures task { KeepsTask cx.old cx.new }
-        ensures same { U.source up.new ≡ U.source up.old }
-        ensures goes { U.becomes up.old up.new }
     {
         match up.poll_connect(cx, self.to) {
             Poll::Ready(Ok(())) => {
@@ -154,11 +152,10 @@ impl PolledExchange {
         ensures over { IfReady result (λ answer. (met : List Exchange) → StandsFor self.old met → IsOver self.old met (U.exchanges up.old) (U.exchanges up.new) answer) }
         ensures cause { IfReady result (λ answer. IsCallFault answer → HasRisen (U.faults up.old) (U.faults up.new)) }
         ensures refused { IfReady result (IsRefused (U.refuses up.old up.new) self.old.to) }
-        ensures later { U.faults up.old ≤ U.faults up.new }
+        ensures up { UpstreamStays U.PollUpstream up.old up.new }
         ensures waits { CountsWaits (U.waits up.old) (U.waits up.new) result }
         ensures registered { OnPending result (IsRegistered cx.new (U.source up.new)) }
         ensures ready { OnPending result (¬ HasNoMark (U.marks up.old)) }
-        ensures unmarked { NoneCame (U.marks up.old) (U.marks up.new) }
         ensures joined { OnPending result (IsJoined self.new.stage (U.at up.new) self.new.to) }
         ensures closed { IfReady result (λ answer. U.at up.new ≡ None) }
         ensures stage { self.new.stage ≡ self.old.stage }
@@ -166,8 +163,6 @@ impl PolledExchange {
         ensures bytes { self.new.bytes ≡ self.old.bytes }
         ensures head { self.new.head ≡ self.old.head }
         ensures task { KeepsTask cx.old cx.new }
-        ensures same { U.source up.new ≡ U.source up.old }
-        ensures goes { U.becomes up.old up.new }
     {
         match self.converse(up, cx, buffer) {
             Poll::Ready(result) => {
@@ -194,19 +189,16 @@ impl PolledExchange {
         ensures over { IfReady result (λ answer. (met : List Exchange) → StandsFor self.old met → IsOver self.old met (U.exchanges up.old) (U.exchanges up.new) answer) }
         ensures cause { IfReady result (λ answer. IsCallFault answer → HasRisen (U.faults up.old) (U.faults up.new)) }
         ensures refused { IfReady result (IsRefused (U.refuses up.old up.new) self.old.to) }
-        ensures later { U.faults up.old ≤ U.faults up.new }
+        ensures up { UpstreamStays U.PollUpstream up.old up.new }
         ensures waits { CountsWaits (U.waits up.old) (U.waits up.new) result }
         ensures registered { OnPending result (IsRegistered cx.new (U.source up.new)) }
         ensures ready { OnPending result (¬ HasNoMark (U.marks up.old)) }
-        ensures unmarked { NoneCame (U.marks up.old) (U.marks up.new) }
         ensures stays { U.at up.new ≡ U.at up.old }
         ensures stage { self.new.stage ≡ self.old.stage }
         ensures to { self.new.to ≡ self.old.to }
         ensures bytes { self.new.bytes ≡ self.old.bytes }
         ensures head { self.new.head ≡ self.old.head }
         ensures task { KeepsTask cx.old cx.new }
-        ensures same { U.source up.new ≡ U.source up.old }
-        ensures goes { U.becomes up.old up.new }
     {
         match send_on(up, cx, self.bytes.bytes(), &mut self.sent) {
             Poll::Ready(Ok(())) => receive(up, cx, &mut self.reader, buffer),
@@ -231,15 +223,12 @@ fn receive<U: PollUpstream>(
     ensures over { IfReady result (λ answer. (head : Bool) (given : List ℕ) → Reads reader.old head given → ReadsTo head given (U.exchanges up.old) (U.exchanges up.new) answer) }
     ensures cause { IfReady result (λ answer. IsCallFault answer → HasRisen (U.faults up.old) (U.faults up.new)) }
     ensures refused { IfReady result (λ answer. (to : Address) → U.at up.old ≡ Some to → IsRefused (U.refuses up.old up.new) to answer) }
-    ensures later { U.faults up.old ≤ U.faults up.new }
+    ensures up { UpstreamStays U.PollUpstream up.old up.new }
     ensures waits { CountsWaits (U.waits up.old) (U.waits up.new) result }
     ensures registered { OnPending result (IsRegistered cx.new (U.source up.new)) }
     ensures ready { OnPending result (¬ HasNoMark (U.marks up.old)) }
-    ensures unmarked { NoneCame (U.marks up.old) (U.marks up.new) }
     ensures stays { U.at up.new ≡ U.at up.old }
     ensures task { KeepsTask cx.old cx.new }
-    ensures same { U.source up.new ≡ U.source up.old }
-    ensures goes { U.becomes up.old up.new }
 {
     let mut given = 0;
     'pieces: loop {

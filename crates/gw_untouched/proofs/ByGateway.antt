@@ -14,12 +14,11 @@ use Rattle.gw_store.proofs.Digests.{known}
 use Rattle.gw_deps.proofs.Depending.{keys_of}
 use Rattle.gw_deps.specs.Indexes.{HasKey, with_next}
 use Rattle.gw_deps.specs.Touching.{is_under}
-use Rattle.gw_untouched.specs.Keeping.{IsPlace, status_where_managed}
 use Rattle.gw_untouched.specs.Untouched.{IsRouteUntouched, IsSameRoute, IsTableFor, RouteStays, GatewayStays, IsGatewayUntouched}
 use Rattle.gw_untouched.proofs.Attached.{AreCounted, gateway_stays, same_labels_count, same_status}
 use Rattle.gw_untouched.proofs.Evaluated.{SameParent, SameState, same_route}
 use Rattle.gw_untouched.proofs.Founds.{all_are, all_by, each_false, if_some, other_found, other_found_at, route_stays, untouched_fails, some_is}
-use Rattle.gw_untouched.proofs.Tables.{not_right, found_table}
+use Rattle.gw_untouched.proofs.Tables.{IsPlace, not_right, found_table}
 
 module _ (controller : List ℕ) (w : World) (key : Key) (next : Option Gateway) (at : ℤ) (changes : ℕ) where
   abbrev pub after : World
@@ -59,13 +58,3 @@ module _ (controller : List ℕ) (w : World) (key : Key) (next : Option Gateway)
         let managed : managed_at controller after k ≡ managed_at controller w k = ap (λ o. o >>= where_managed controller w) held in
         gateway_stays doors controller w after k held managed
         (some_is (λ s. AreCounted doors controller w after k) (λ s place. same_labels_count controller k place w after managed refl (λ namespace. refl)) (gateway_at w k))
-
-  -- a Gateway of another key has the status that it had
-  pub same_elsewhere : (doors : List Door) (place : Result ℕ ℕ) → HasKey gateway_key key next → IsPlace gateway_key key w.gateways place → (g : Gateway) → same_key (gateway_key g) key ≡ false
-      → status_where_managed doors controller after g ≡ status_where_managed doors controller w g
-  unfolding is_managed
-  same_elsewhere doors place named here g other =
-      let k = gateway_key g in
-      let managed : managed_at controller after k ≡ managed_at controller w k = ap (λ o. o >>= where_managed controller w) (other_found_at gateway_key k key next at w.gateways place named here other) in
-      let status = same_status doors controller w after k g refl (λ counted. same_labels_count controller k counted w after managed refl (λ namespace. refl)) in
-      ap (λ s. if is_managed controller w g then Some s else None) status

@@ -13,9 +13,8 @@ use Rattle.gw_deps.proofs.Replacing.{same_swap, same_through}
 use Rattle.gw_deps.specs.Edges.{has_key}
 use Rattle.gw_deps.specs.Indexes.{HasKey, with_next}
 use Rattle.gw_eval.specs.Results.{route_result_of}
-use Rattle.gw_untouched.specs.Keeping.{IsPlace}
 use Rattle.gw_untouched.specs.Untouched.{IsSameRoute, IsTableFor, RouteStays}
-use Rattle.gw_untouched.proofs.Tables.{found_next, neither, place_of}
+use Rattle.gw_untouched.proofs.Tables.{IsPlace, found_next, neither, place_of}
 
 -- where a test finds none, each fails it
 pub each_false : {X : Type 0} (p : X → Bool) (xs : List X) → list_any p xs ≡ false → AllByRecursion (λ x. p x ≡ false) xs

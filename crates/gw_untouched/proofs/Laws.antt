@@ -7,7 +7,7 @@ use Rattle.gw_text.specs.model.Objects.{Event, puts, removes, a_class, a_gateway
 use Rattle.gw_text.specs.model.World.{World, apply, changed, is_route_kind}
 use Rattle.gw_deps.specs.Edges.{has_key}
 use Rattle.gw_deps.specs.Touching.{AreTouched, Touched, event_kind}
-use Rattle.gw_untouched.specs.Untouched.{GatewayStays, IsAfter, IsOrderedFor, LeavesGateway, LeavesRoute, RouteStays, is_gateway_kind}
+use Rattle.gw_untouched.specs.Untouched.{GatewayStays, IsAfter, IsOrderedFor, LeavesGateway, LeavesRoute, RouteStays}
 use Rattle.gw_untouched.proofs.ByClass.{routes as routes_by_class, gateways as gateways_by_class}
 use Rattle.gw_untouched.proofs.ByGateway.{routes as routes_by_gateway, gateways as gateways_by_gateway}
 use Rattle.gw_untouched.proofs.ByGrant.{routes as routes_by_grant, gateways as gateways_by_grant}
@@ -104,44 +104,3 @@ route_left w event at touched k are other =
 pub gateway_left : (w : World) (event : Event) (at : ℤ) (touched : Touched) (k : Key) → AreTouched w event at touched → has_key k touched.gateways ≡ false → LeavesGateway w event at k
 gateway_left w event at touched k are other =
     let parts = neither _ _ (sym (are.gateways k) ∙ other) in record { earlier = parts.0; later = parts.1 }
-
-routes_same_changed : (w : World) (event : Event) (at : ℤ) → is_route_kind (event_kind event) ≡ false → (changed w event at).routes ≡ w.routes
-routes_same_changed w (puts (a_class x)) at other = refl
-routes_same_changed w (puts (a_gateway x)) at other = refl
-routes_same_changed w (puts (a_route x)) at other = cc
-routes_same_changed w (puts (a_grant x)) at other = refl
-routes_same_changed w (puts (a_namespace x)) at other = refl
-routes_same_changed w (puts (a_service x)) at other = refl
-routes_same_changed w (puts (a_slice x)) at other = refl
-routes_same_changed w (removes kinds.GatewayClass key) at other = refl
-routes_same_changed w (removes kinds.Gateway key) at other = refl
-routes_same_changed w (removes kinds.HttpRoute key) at other = cc
-routes_same_changed w (removes kinds.ReferenceGrant key) at other = refl
-routes_same_changed w (removes kinds.Namespace key) at other = refl
-routes_same_changed w (removes kinds.Service key) at other = refl
-routes_same_changed w (removes kinds.EndpointSlice key) at other = refl
-
-gateways_same_changed : (w : World) (event : Event) (at : ℤ) → is_gateway_kind (event_kind event) ≡ false → (changed w event at).gateways ≡ w.gateways
-gateways_same_changed w (puts (a_class x)) at other = refl
-gateways_same_changed w (puts (a_gateway x)) at other = cc
-gateways_same_changed w (puts (a_route x)) at other = refl
-gateways_same_changed w (puts (a_grant x)) at other = refl
-gateways_same_changed w (puts (a_namespace x)) at other = refl
-gateways_same_changed w (puts (a_service x)) at other = refl
-gateways_same_changed w (puts (a_slice x)) at other = refl
-gateways_same_changed w (removes kinds.GatewayClass key) at other = refl
-gateways_same_changed w (removes kinds.Gateway key) at other = cc
-gateways_same_changed w (removes kinds.HttpRoute key) at other = refl
-gateways_same_changed w (removes kinds.ReferenceGrant key) at other = refl
-gateways_same_changed w (removes kinds.Namespace key) at other = refl
-gateways_same_changed w (removes kinds.Service key) at other = refl
-gateways_same_changed w (removes kinds.EndpointSlice key) at other = refl
-
--- events of other kinds leave the whole list
-pub routes_same : (w after : World) (event : Event) (at : ℤ) → IsAfter w event at after → is_route_kind (event_kind event) ≡ false → after.routes ≡ w.routes
-routes_same w after event at is other =
-    after_either (λ v. v.routes ≡ w.routes) w event at after is (routes_same_changed w event at other) (routes_same_changed w event at other)
-
-pub gateways_same : (w after : World) (event : Event) (at : ℤ) → IsAfter w event at after → is_gateway_kind (event_kind event) ≡ false → after.gateways ≡ w.gateways
-gateways_same w after event at is other =
-    after_either (λ v. v.gateways ≡ w.gateways) w event at after is (gateways_same_changed w event at other) (gateways_same_changed w event at other)

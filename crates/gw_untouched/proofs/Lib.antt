@@ -7,8 +7,6 @@ pub mod ByRoute
 pub mod ByService
 pub mod BySlice
 pub mod Evaluated
-pub mod Kept
 pub mod Laws
-pub mod Lists
 pub mod Founds
 pub mod Tables

@@ -3,6 +3,7 @@ use Rattle.std.proofs.Common.{◌≡◌, ◌∙◌, ℕ, zero, suc, ℤ, Bool, t
 use Rattle.std.specs.List.{AllByRecursion, insert, list_any, count_by}
 use Rattle.std.specs.List.Sorted.{IsStrictlySortedBy}
 use Rattle.std.specs.Ordering.{is_eq}
+use Rattle.std.specs.Result.{MatchResult}
 use Rattle.std.specs.declared.cmp.Ordering.{Ordering}
 use Rattle.std.specs.declared.cmp.Ordering.TheVariants.{Less, Equal, Greater}
 use Rattle.std.proofs.lemmas.List.Sums.{length-filter}
@@ -16,8 +17,11 @@ use Rattle.gw_store.specs.Table.{AllAbove, StandsAt, IsMissingAt}
 use Rattle.gw_deps.proofs.Finding.{alike_missing, alike_standing}
 use Rattle.gw_deps.proofs.Replacing.{key_is, put_own}
 use Rattle.gw_deps.specs.Indexes.{AreAlike, HasKey, with_next}
-use Rattle.gw_untouched.specs.Keeping.{IsPlace}
 use Rattle.gw_untouched.specs.Untouched.{IsTableFor}
+
+-- where the object of a key stands among those of its kind, or else where it would stand
+abbrev pub IsPlace : {T : Type 0} → (T → Key) → Key → List (Stored T) → Result ℕ ℕ → Type 0
+IsPlace key_of key stored place = MatchResult place (StandsAt key_of key stored) (IsMissingAt key_of key stored)
 
 -- of two choices neither is made
 pub neither : (a b : Bool) → (a || b) ≡ false → (a ≡ false) × (b ≡ false)
@@ -78,11 +82,6 @@ module _ {T : Type 0} (key : T → Key) (name : Key) where
   place_by [] order alike = (Err 0, tt)
   place_by (h ∷ hs) order alike =
       place_here h hs (key_order (key h.object) name) refl alike.0 order.0 (place_by hs order.1 alike.1)
-
-  -- where the key has a place, no other ties with it
-  pub table_of : (hs : List (Stored T)) (place : Result ℕ ℕ) → IsInKeyOrder key hs → IsPlace key name hs place → IsTableFor key name hs
-  table_of hs (Ok i) order stands = record { order = order; alike = alike_standing key name hs i stands }
-  table_of hs (Err i) order gap = record { order = order; alike = alike_missing key name hs i gap }
 
   -- the key has a place in a table
   pub place_of : (hs : List (Stored T)) → IsTableFor key name hs → (p : Result ℕ ℕ) × IsPlace key name hs p

@@ -57,16 +57,6 @@ LeavesGateway w event at gateway = IsGatewayUntouched w (changed w event at) (ev
 abbrev pub IsOrderedFor : World → Event → Type 0
 IsOrderedFor w event = IsOrdered w (event_kind event) (event_key event)
 
--- The kind is that of Gateways.
-abbrev pub is_gateway_kind : Kind → Bool
-is_gateway_kind kinds.GatewayClass = false
-is_gateway_kind kinds.Gateway = true
-is_gateway_kind kinds.HttpRoute = false
-is_gateway_kind kinds.ReferenceGrant = false
-is_gateway_kind kinds.Namespace = false
-is_gateway_kind kinds.Service = false
-is_gateway_kind kinds.EndpointSlice = false
-
 -- What is evaluated of a Route is the same in both worlds.
 pub record IsSameRoute (controller : List ℕ) (w after : World) (r : HttpRoute) : Type 0 where
   pub result : route_result_of controller after r ≡ route_result_of controller w r

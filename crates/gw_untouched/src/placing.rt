@@ -1,36 +1,18 @@
-ghost use Rattle.std.specs.Prelude.{◌≡◌, length};
-ghost use Rattle.std.specs.List.Sorted.{IsSearchInRange};
+ghost use Rattle.std.specs.Prelude.{◌≡◌};
 ghost use Rattle.gw_store.specs.SeenEvents.{seen_event};
 ghost use Rattle.gw_text.specs.model.Stored.{IsInKeyOrder};
-ghost use Rattle.gw_untouched.specs.Keeping.{IsPlace};
 ghost use Rattle.gw_untouched.specs.Untouched.{IsOrdered, IsOrderedFor, IsTableFor};
 
+use gw_deps::find;
 use gw_store::{Event, Keyed, World};
 use gw_text::{Key, Kind, Stored};
-
-/// Where the object of `key` stands among those of its kind, or else where it would stand.
-pub fn place<T: Keyed + Drop>(stored: &[Stored<T>], key: &Key) -> Result<usize, usize>
-    requires { IsInKeyOrder T.key stored.now }
-    ensures range { IsSearchInRange result (length stored.now) }
-    ensures place { IsPlace T.key key.now stored.now result }
-{
-    let key = key.formed();
-    match stored.binary_search_by(|object| object.key().compare(key)) {
-        Ok(at) => {
-            // Keys of their forms that tie are one.
-            let _form = stored[at].key();
-            Ok(at)
-        }
-        Err(at) => Err(at),
-    }
-}
 
 // No other key ties with this one in the order of keys.
 fn stands_in_order<T: Keyed + Drop>(stored: &[Stored<T>], key: &Key)
     requires { IsInKeyOrder T.key stored.now }
     ensures { IsTableFor T.key key.now stored.now }
 {
-    let _place = place(stored, key);
+    let _found = find(stored, key);
 }
 
 fn kind_stands_in_order(world: &World, kind: Kind, key: &Key)

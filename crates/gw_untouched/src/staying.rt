@@ -5,7 +5,7 @@ ghost use Rattle.gw_text.specs.model.Doors.{Door};
 ghost use Rattle.gw_text.specs.model.Names.{Key};
 ghost use Rattle.gw_text.specs.model.Objects.{Event};
 ghost use Rattle.gw_text.specs.model.World.{World, is_route_kind};
-ghost use Rattle.gw_untouched.specs.Untouched.{GatewayStays, IsAfter, IsOrderedFor, LeavesGateway, LeavesRoute, RouteStays, is_gateway_kind};
+ghost use Rattle.gw_untouched.specs.Untouched.{GatewayStays, IsAfter, IsOrderedFor, LeavesGateway, LeavesRoute, RouteStays};
 
 /// A Route that an event doesn't touch stays as it was, and so does what is evaluated of it.
 pub fn routes_stay()
@@ -24,16 +24,4 @@ pub fn gateways_stay()
 pub fn touched_keys_are_all()
     ensures routes { (w : World) (event : Event) (at : ℤ) (touched : Touched) (key : Key) → AreTouched w event at touched → has_key key touched.routes ≡ false → LeavesRoute w event at key }
     ensures gateways { (w : World) (event : Event) (at : ℤ) (touched : Touched) (key : Key) → AreTouched w event at touched → has_key key touched.gateways ≡ false → LeavesGateway w event at key }
-{}
-
-/// An event of another kind leaves all Routes.
-#[tactic(auto, using(crate::proofs::Laws::routes_same))]
-pub fn other_kinds_leave_routes()
-    ensures { (w after : World) (event : Event) (at : ℤ) → IsAfter w event at after → is_route_kind (event_kind event) ≡ false → after.routes ≡ w.routes }
-{}
-
-/// An event of another kind leaves all Gateways.
-#[tactic(auto, using(crate::proofs::Laws::gateways_same))]
-pub fn other_kinds_leave_gateways()
-    ensures { (w after : World) (event : Event) (at : ℤ) → IsAfter w event at after → is_gateway_kind (event_kind event) ≡ false → after.gateways ≡ w.gateways }
 {}

@@ -5,6 +5,7 @@ pub mod Flows
 pub mod Lending
 pub mod Links
 pub mod Nexts
+pub mod Stays
 pub mod Steps
 pub mod Turns
 pub mod Workers

@@ -12,6 +12,7 @@ ghost use Rattle.gw_worker.specs.model.Sessions.{Part, Place, a_close, a_cut, a_
 ghost use Rattle.gw_answers.specs.model.Messages.{is_head as is_head_of, reply_of};
 ghost use Rattle.gw_answers.specs.model.ServedRows.{served_row};
 ghost use Rattle.gw_replies.specs.model.Written.{own};
+ghost use Rattle.gw_worker.specs.Stays.{PassStays};
 ghost use Rattle.gw_worker.specs.Steps.{Came, IsReady};
 ghost use Rattle.gw_answers.specs.model.ServedRows as plain;
 
@@ -225,12 +226,9 @@ impl Conn {
         ensures err { OnErr result ((p : Place) (bytes : List ℕ) (parts : List Part) (text : List ℕ) → IsAt w.old p
             → StandsFor self.old p bytes parts text → IsStuck p w.old w.new self.new bytes parts) }
         ensures rows { OnErr result (self.new.rows ≡ self.old.rows) }
-        ensures later { BeginsWith w.old.pass.seen w.new.pass.seen }
-        ensures fixed { w.new.pass.fixed ≡ w.old.pass.fixed }
-        ensures book { w.new.pass.book ≡ w.old.pass.book }
+        ensures pass { PassStays w.old w.new }
         ensures ok { OnOk result (w.new.pass.refused ≡ w.old.pass.refused) }
         ensures refused { IfErr result (λ e. CountsPlace e w.old.pass.refused w.new.pass.refused) }
-        ensures ahead { w.new.pass.ahead ≡ w.old.pass.ahead }
         ensures door { self.new.door ≡ self.old.door }
     {
         match self.inlet.next()? {
@@ -304,12 +302,9 @@ impl Conn {
         ensures inlet { self.new.inlet ≡ self.old.inlet }
         ensures err { OnErr result ((p : Place) → IsAt w.old p → p.door ≡ self.old.door → IsLeftBy p w.old w.new request.now) }
         ensures rows { OnErr result (self.new.rows ≡ self.old.rows) }
-        ensures later { BeginsWith w.old.pass.seen w.new.pass.seen }
-        ensures fixed { w.new.pass.fixed ≡ w.old.pass.fixed }
-        ensures book { w.new.pass.book ≡ w.old.pass.book }
+        ensures pass { PassStays w.old w.new }
         ensures ok { OnOk result (w.new.pass.refused ≡ w.old.pass.refused) }
         ensures refused { IfErr result (λ e. CountsPlace e w.old.pass.refused w.new.pass.refused) }
-        ensures ahead { w.new.pass.ahead ≡ w.old.pass.ahead }
         ensures door { self.new.door ≡ self.old.door }
     {
         let (front, decision) = w.decision(self.alloc, self.door, request)?;

@@ -7,6 +7,7 @@ ghost use Rattle.gw_worker.specs.Conns.{IsServing, StandsFor, GoesOn, IsAsking, 
 ghost use Rattle.gw_worker.specs.Faults.{CountsRefused};
 ghost use Rattle.gw_worker.specs.Flows.{outside, BrokeOff, IsUnwritten, Meets, Replied, Served, TellsOne, TookTo};
 ghost use Rattle.gw_worker.specs.Links.{HasBroken, HasServed, Ran, Stopped};
+ghost use Rattle.gw_worker.specs.Stays.{LinkStays, PassStays, UpstreamStays};
 ghost use Rattle.gw_worker.specs.Workers.{IsAt};
 ghost use Rattle.gw_worker.specs.model.Sessions.{Part, Place};
 ghost use Rattle.gw_frames.specs.Inlets.{is_over};
@@ -154,13 +155,9 @@ fn serve<K: Link, U: Upstream>(
     ensures write { result ≡ Err ConnFault.Write → HasRisen (K.faults link.old) (K.faults link.new) }
     ensures ok { OnOk result (w.new.pass.refused ≡ w.old.pass.refused) }
     ensures refused { IfErr result (λ e. CountsRefused e w.old.pass.refused w.new.pass.refused) }
-    ensures ahead { w.new.pass.ahead ≡ w.old.pass.ahead }
     ensures link_later { K.faults link.old ≤ K.faults link.new }
-    ensures up_later { U.faults up.old ≤ U.faults up.new }
-    ensures becomes { U.becomes up.old up.new }
-    ensures later { BeginsWith w.old.pass.seen w.new.pass.seen }
-    ensures fixed { w.new.pass.fixed ≡ w.old.pass.fixed }
-    ensures book { w.new.pass.book ≡ w.old.pass.book }
+    ensures up { UpstreamStays U.Upstream up.old up.new }
+    ensures pass { PassStays w.old w.new }
 {
     let mut buffer = [0; MOST_PIECE];
     let mut taken = 0;
@@ -262,14 +259,9 @@ impl Conn {
         ensures read { result ≡ Err ConnFault.Read → ⊥ }
         ensures ok { OnOk result (w.new.pass.refused ≡ w.old.pass.refused) }
         ensures refused { IfErr result (λ e. CountsRefused e w.old.pass.refused w.new.pass.refused) }
-        ensures ahead { w.new.pass.ahead ≡ w.old.pass.ahead }
-        ensures unread { Keeps (K.left link.old) (K.left link.new) }
-        ensures link_later { K.faults link.old ≤ K.faults link.new }
-        ensures up_later { U.faults up.old ≤ U.faults up.new }
-        ensures becomes { U.becomes up.old up.new }
-        ensures later { BeginsWith w.old.pass.seen w.new.pass.seen }
-        ensures fixed { w.new.pass.fixed ≡ w.old.pass.fixed }
-        ensures book { w.new.pass.book ≡ w.old.pass.book }
+        ensures link { LinkStays K.Link link.old link.new }
+        ensures up { UpstreamStays U.Upstream up.old up.new }
+        ensures pass { PassStays w.old w.new }
         ensures door { self.new.door ≡ self.old.door }
     {
         'turns: loop {
@@ -304,14 +296,9 @@ impl Conn {
         ensures read { result ≡ Err ConnFault.Read → ⊥ }
         ensures ok { OnOk result (w.new.pass.refused ≡ w.old.pass.refused) }
         ensures refused { IfErr result (λ e. CountsRefused e w.old.pass.refused w.new.pass.refused) }
-        ensures ahead { w.new.pass.ahead ≡ w.old.pass.ahead }
-        ensures unread { Keeps (K.left link.old) (K.left link.new) }
-        ensures link_later { K.faults link.old ≤ K.faults link.new }
-        ensures up_later { U.faults up.old ≤ U.faults up.new }
-        ensures becomes { U.becomes up.old up.new }
-        ensures later { BeginsWith w.old.pass.seen w.new.pass.seen }
-        ensures fixed { w.new.pass.fixed ≡ w.old.pass.fixed }
-        ensures book { w.new.pass.book ≡ w.old.pass.book }
+        ensures link { LinkStays K.Link link.old link.new }
+        ensures up { UpstreamStays U.Upstream up.old up.new }
+        ensures pass { PassStays w.old w.new }
         ensures door { self.new.door ≡ self.old.door }
     {
         match self.next(w)? {
@@ -349,8 +336,7 @@ impl Conn {
         ensures write { result ≡ Err ConnFault.Write → HasRisen (K.faults link.old) (K.faults link.new) }
         ensures read { result ≡ Err ConnFault.Read → ⊥ }
         ensures place { result ≡ Err ConnFault.Place → ⊥ }
-        ensures unread { Keeps (K.left link.old) (K.left link.new) }
-        ensures link_later { K.faults link.old ≤ K.faults link.new }
+        ensures link { LinkStays K.Link link.old link.new }
         ensures door { self.new.door ≡ self.old.door }
     {
         self.answer(answer);
@@ -365,8 +351,7 @@ fn write<K: Link>(link: &mut K, text: &Text) -> Result<(), ConnFault>
     ensures ok { OnOk result (Takes (K.written link.old) text.now (K.written link.new)) }
     ensures err { OnErr result (TakesPart (K.written link.old) text.now (K.written link.new)) }
     ensures cause { IfErr result (λ fault. (fault ≡ ConnFault.Write) × HasRisen (K.faults link.old) (K.faults link.new)) }
-    ensures unread { Keeps (K.left link.old) (K.left link.new) }
-    ensures later { K.faults link.old ≤ K.faults link.new }
+    ensures link { LinkStays K.Link link.old link.new }
 {
     match write_whole(link, text.bytes()) {
         Ok(()) => Ok(()),
@@ -384,8 +369,7 @@ fn ask<U: Upstream>(
 ) -> Result<Result<Response, BackendFault>, NoMemory>
     ensures met { IfOk result (λ answer. Meets (U.refuses up.old up.new) to bytes.now head answer (outside None (U.exchanges up.old) (U.faults up.old)) (outside None (U.exchanges up.new) (U.faults up.new))) }
     ensures broke { OnErr result (TellsOne to bytes.now (U.exchanges up.old) (U.exchanges up.new)) }
-    ensures later { U.faults up.old ≤ U.faults up.new }
-    ensures becomes { U.becomes up.old up.new }
+    ensures up { UpstreamStays U.Upstream up.old up.new }
 {
     match exchange(alloc, up, to, bytes.bytes(), head) {
         Ok(response) => Ok(Ok(response)),

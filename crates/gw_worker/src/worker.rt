@@ -4,6 +4,7 @@ ghost use Rattle.std.specs.Borrow.{sem};
 ghost use Rattle.gw_snap.specs.Counts.{CountsPlace};
 ghost use Rattle.gw_snap.specs.Lists.{BeginsWith};
 ghost use Rattle.gw_worker.specs.Lending.{LendsPass};
+ghost use Rattle.gw_worker.specs.Stays.{PassStays};
 ghost use Rattle.gw_worker.specs.Workers.{Decides, handled_by, IsAt, IsLeftBy};
 ghost use Rattle.gw_worker.specs.model.Sessions.{decision_at, Place};
 
@@ -85,12 +86,9 @@ impl Worker {
         ensures decision { IfOk result (λ d. (p : Place) → IsAt self.old p → p.door ≡ door → d.1 ≡ decision_at p request.now (handled_by self.old self.new)) }
         ensures decides { OnOk result ((p : Place) → IsAt self.old p → p.door ≡ door → Decides p self.old self.new request.now (handled_by self.old self.new)) }
         ensures err { OnErr result ((p : Place) → IsAt self.old p → p.door ≡ door → IsLeftBy p self.old self.new request.now) }
-        ensures later { BeginsWith self.old.pass.seen self.new.pass.seen }
-        ensures fixed { self.new.pass.fixed ≡ self.old.pass.fixed }
-        ensures book { self.new.pass.book ≡ self.old.pass.book }
+        ensures pass { PassStays self.old self.new }
         ensures ok { OnOk result (self.new.pass.refused ≡ self.old.pass.refused) }
         ensures refused { IfErr result (λ e. CountsPlace e self.old.pass.refused self.new.pass.refused) }
-        ensures ahead { self.new.pass.ahead ≡ self.old.pass.ahead }
     {
         let view = self.pass.read()?;
         let decision = Decision::of(alloc, view.value.table(door), request, &mut self.books)?;

@@ -1,8 +1,8 @@
 -- The former Route is taken out, and then the new one is added.
 use Rattle.std.proofs.Common.{◌++◌, option_to_list, sym, subst}
 use Rattle.std.specs.Option.{option_copied}
-use Rattle.gw_counts.specs.Counts.{AreCounts}
-use Rattle.gw_counts.specs.declared.counts.Counts.{Counts}
+use Rattle.gw_kept.specs.Counts.{AreCounts}
+use Rattle.gw_kept.specs.declared.counts.Counts.{Counts}
 use Rattle.gw_kept.proofs.counted.changed_counts.Goals as goal
 
 pub returns : goal.returns

@@ -1,6 +1,6 @@
 -- A number more.
 use Rattle.std.proofs.Common.{ℕ, rules}
-use Rattle.gw_counts.specs.Counts.{number_at}
+use Rattle.gw_kept.specs.Counts.{number_at}
 use Rattle.gw_kept.proofs.Numbers.{numbers_more}
 use Rattle.gw_kept.proofs.counted.numbers.Goals as goal
 

@@ -1,6 +1,6 @@
 -- The numbers so far are those of the listeners so far.
 use Rattle.std.proofs.Common.{◌≡◌, ◌<◌, ℕ, get_or, length}
-use Rattle.gw_counts.specs.Counts.{number_at}
+use Rattle.gw_kept.specs.Counts.{number_at}
 use Rattle.gw_kept.proofs.counted.numbers.Given as goal
 
 abbrev pub invariant-places : goal.invariant-places

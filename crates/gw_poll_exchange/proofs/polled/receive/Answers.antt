@@ -7,6 +7,7 @@ use Rattle.gw_exchange.proofs.Ending.{at_socket, comes_fault, no_call, none_refu
 use Rattle.gw_exchange.proofs.Limits.{byte_fault}
 use Rattle.gw_exchange.proofs.Receiving.{few_on}
 use Rattle.gw_poll_exchange.proofs.Reading.{begins, reads_failed, reads_on, reads_to, reads_waits}
+use Rattle.gw_poll_exchange.proofs.Staying.{up_self, up_then}
 use Rattle.gw_poll_exchange.proofs.polled.receive.Goals as goal
 
 pub pieces-init : goal.pieces-init
@@ -15,12 +16,8 @@ pieces-init g c = record {
   few = search rules;
   size = refl;
   at = refl;
-  unmarked = λ none. none;
-  later = search rules;
-  waits = search rules;
+  up = up_self g.U.PollUpstream g.met.U.PollUpstream.becomes_self _;
   task = λ fact holds. holds;
-  same = refl;
-  goes = g.met.U.PollUpstream.becomes_self _;
 }
 
 pub poll_receive-requires-clause-connected : goal.poll_receive-requires-clause-connected
@@ -35,7 +32,7 @@ returns-in-Ready-Err-clause-over g c = λ head given reads.
 
 pub returns-in-Ready-Err-clause-refused : goal.returns-in-Ready-Err-clause-refused
 returns-in-Ready-Err-clause-refused g c = λ to at.
-    g.met.U.PollUpstream.refuses_later c.args.up.now c.pieces.up c.poll_receive.new.self Receive to c.pieces.invariant.goes
+    g.met.U.PollUpstream.refuses_later c.args.up.now c.pieces.up c.poll_receive.new.self Receive to c.pieces.invariant.up.becomes
     (at_socket (g.U.PollUpstream.refuses c.pieces.up c.poll_receive.new.self Receive) (g.U.PollUpstream.at c.pieces.up) to (c.pieces.invariant.at ∙ at) (rw c.in-Ready-Err.field-0-is at c.in-Ready-Err.ensures.refused))
 
 pub returns-in-Pending-clause-on : goal.returns-in-Pending-clause-on
@@ -109,10 +106,32 @@ pieces-preserved g c =
       few = omega (arith, size, few.1, first.1, length-append (begun.1.0 ++ first.0.more) piece, length-append begun.1.0 first.0.more);
       size = c.poll_receive.auto.buf ∙ c.pieces.invariant.size;
       at = c.poll_receive.ensures.stays ∙ c.pieces.invariant.at;
-      unmarked = λ none. c.poll_receive.ensures.unmarked (c.pieces.invariant.unmarked none);
-      later = search rules;
-      waits = search rules;
+      up = up_then g.U.PollUpstream g.met.U.PollUpstream.becomes_then _ _ _ c.pieces.invariant.up
+          (record { becomes = c.poll_receive.ensures.goes; unmarked = c.poll_receive.ensures.unmarked; same = c.poll_receive.ensures.same; later = c.poll_receive.ensures.counts.later; waits = c.poll_receive.ensures.waits.later });
       task = λ fact holds. c.poll_receive.ensures.task fact (c.pieces.invariant.task fact holds);
-      same = c.poll_receive.ensures.same ∙ c.pieces.invariant.same;
-      goes = g.met.U.PollUpstream.becomes_then _ _ _ c.pieces.invariant.goes c.poll_receive.ensures.goes;
     }
+
+pub returns-in-Ready-Err-clause-up : goal.returns-in-Ready-Err-clause-up
+returns-in-Ready-Err-clause-up g c =
+    up_then g.U.PollUpstream g.met.U.PollUpstream.becomes_then _ _ _ c.pieces.invariant.up
+    (record { becomes = c.poll_receive.ensures.goes; unmarked = c.poll_receive.ensures.unmarked; same = c.poll_receive.ensures.same; later = c.poll_receive.ensures.counts.later; waits = c.poll_receive.ensures.waits.later })
+
+pub returns-in-Pending-clause-up : goal.returns-in-Pending-clause-up
+returns-in-Pending-clause-up g c =
+    up_then g.U.PollUpstream g.met.U.PollUpstream.becomes_then _ _ _ c.pieces.invariant.up
+    (record { becomes = c.poll_receive.ensures.goes; unmarked = c.poll_receive.ensures.unmarked; same = c.poll_receive.ensures.same; later = c.poll_receive.ensures.counts.later; waits = c.poll_receive.ensures.waits.later })
+
+pub returns-in-Err-clause-up : goal.returns-in-Err-clause-up
+returns-in-Err-clause-up g c =
+    up_then g.U.PollUpstream g.met.U.PollUpstream.becomes_then _ _ _ c.pieces.invariant.up
+    (record { becomes = c.poll_receive.ensures.goes; unmarked = c.poll_receive.ensures.unmarked; same = c.poll_receive.ensures.same; later = c.poll_receive.ensures.counts.later; waits = c.poll_receive.ensures.waits.later })
+
+pub returns-in-Ok-Done-clause-up : goal.returns-in-Ok-Done-clause-up
+returns-in-Ok-Done-clause-up g c =
+    up_then g.U.PollUpstream g.met.U.PollUpstream.becomes_then _ _ _ c.pieces.invariant.up
+    (record { becomes = c.poll_receive.ensures.goes; unmarked = c.poll_receive.ensures.unmarked; same = c.poll_receive.ensures.same; later = c.poll_receive.ensures.counts.later; waits = c.poll_receive.ensures.waits.later })
+
+pub returns-in-Ok-Fault-clause-up : goal.returns-in-Ok-Fault-clause-up
+returns-in-Ok-Fault-clause-up g c =
+    up_then g.U.PollUpstream g.met.U.PollUpstream.becomes_then _ _ _ c.pieces.invariant.up
+    (record { becomes = c.poll_receive.ensures.goes; unmarked = c.poll_receive.ensures.unmarked; same = c.poll_receive.ensures.same; later = c.poll_receive.ensures.counts.later; waits = c.poll_receive.ensures.waits.later })

@@ -1,8 +1,8 @@
 use Rattle.std.proofs.Common.{◌≡◌, ◌≤◌, ◌+◌, ◌-◌, Bool, List, ℕ, length}
 use Rattle.futures.specs.Task.{Keeps as KeepsTask}
 use Rattle.gw_exchange.specs.declared.backend.TheConstants.{MOST_GIVEN}
-use Rattle.gw_polling.specs.Polls.{NoneCame}
 use Rattle.gw_poll_exchange.specs.Polled.{Reads}
+use Rattle.gw_poll_exchange.specs.Stays.{UpstreamStays}
 use Rattle.gw_poll_exchange.proofs.Reading.{IsReading}
 use Rattle.gw_poll_exchange.proofs.polled.receive.Given as goal
 
@@ -13,12 +13,8 @@ invariant-pieces g l = record {
   few : l.given ≤ MOST_GIVEN;
   size : length l.buffer ≡ length l.fn.buffer;
   at : g.U.PollUpstream.at l.up ≡ g.U.PollUpstream.at l.fn.up;
-  unmarked : NoneCame (g.U.PollUpstream.marks l.fn.up) (g.U.PollUpstream.marks l.up);
-  later : g.U.PollUpstream.faults l.fn.up ≤ g.U.PollUpstream.faults l.up;
-  waits : g.U.PollUpstream.waits l.fn.up ≤ g.U.PollUpstream.waits l.up;
+  up : UpstreamStays g.U.PollUpstream l.fn.up l.up;
   task : KeepsTask l.fn.cx l.cx;
-  same : g.U.PollUpstream.source l.up ≡ g.U.PollUpstream.source l.fn.up;
-  goes : g.U.PollUpstream.becomes l.fn.up l.up;
 }
 
 abbrev pub decreases-pieces : goal.decreases-pieces

@@ -4,10 +4,10 @@ use Rattle.std.proofs.lemmas.List.{length-take-le}
 use Rattle.gw_answers.proofs.Left.{on_err}
 use Rattle.gw_link.proofs.PieceLemmas.{Gives-more, Gives-nothing}
 use Rattle.gw_link.specs.declared.order.UpstreamCall.{UpstreamCall}
-use Rattle.gw_lists.proofs.Beginnings.{begins_with-self, begins_with-trans}
 use Rattle.gw_text.specs.model.Addresses.{Socket}
 use Rattle.gw_worker.proofs.Going.{still_at}
 use Rattle.gw_worker.proofs.Linking.{broke_settled, calm, empty_size, fed_first, fed_more, ran_on, stopped_on, took_first, took_kept, took_on}
+use Rattle.gw_worker.proofs.Staying.{pass_self, pass_then, up_self, up_then}
 use Rattle.gw_link.proofs.KeptLemmas.{end_kept, gives_kept}
 use Rattle.gw_worker.specs.Conns.{StandsFor}
 use Rattle.gw_worker.specs.Flows.{Outside, outside}
@@ -22,13 +22,9 @@ pieces-init g c = record {
   few = omega arith;
   serving = c.requires.serving;
   link_later = omega arith;
-  up_later = omega arith;
-  becomes = g.met.U.Upstream.becomes_self _;
-  later = begins_with-self _;
-  fixed = refl;
-  book = refl;
   refused = refl;
-  ahead = refl;
+  up = up_self g.U.Upstream g.met.U.Upstream.becomes_self _;
+  pass = pass_self _;
   door = refl;
 }
 
@@ -52,7 +48,7 @@ returns-in_err-take-clause-stopped g c =
     let middle = c.pieces.up in
     let last = c.take.new.up in
     let still = λ (call : UpstreamCall) (to : Socket) (refused : refuses first middle call to). g.met.U.Upstream.refuses_still first middle last call to refused c.take.ensures.becomes in
-    let later = λ (call : UpstreamCall) (to : Socket) (refused : refuses middle last call to). g.met.U.Upstream.refuses_later first middle last call to c.pieces.invariant.becomes refused in
+    let later = λ (call : UpstreamCall) (to : Socket) (refused : refuses middle last call to). g.met.U.Upstream.refuses_later first middle last call to c.pieces.invariant.up.becomes refused in
     let size = length-take-le c.in-Ok.size c.read.new.buf c.in-Ok.ensures.within in
     let i = c.pieces.invariant.took in
     let piece : List ℕ = take c.in-Ok.size c.read.new.buf in
@@ -62,7 +58,7 @@ returns-in_err-take-clause-stopped g c =
     → Stopped (refuses first last) p c.args.w.now c.take.new.w c.take.new.self bytes parts text (g.K.Link.left c.args.link.now) (g.K.Link.left c.take.new.link) o o' = λ p bytes parts text at s.
     let t = took_kept (refuses first middle) p c.args.w.now c.pieces.w c.pieces.conn (bytes ++ i.0) parts text _ _ _ _ _ (i.1.2 p bytes parts text at s) c.in-Ok.ensures.unwritten in
     stopped_on (refuses first middle) (refuses middle last) (refuses first last) p c.args.w.now c.pieces.w c.take.new.w c.pieces.conn c.take.new.self bytes i.0 piece parts text _ _ o _ o' still later t
-    (c.in_err-take.ensures.broke p (bytes ++ i.0) (parts ++ t.more) (text ++ t.wrote) (still_at p c.args.w.now c.pieces.w c.pieces.invariant.fixed at) t.stands)
+    (c.in_err-take.ensures.broke p (bytes ++ i.0) (parts ++ t.more) (text ++ t.wrote) (still_at p c.args.w.now c.pieces.w c.pieces.invariant.pass.fixed at) t.stands)
     (gives_kept _ _ _ (i.0 ++ piece) (Gives-more _ _ _ i.0 piece i.1.0 c.in-Ok.ensures.gives) c.take.ensures.unread)
     (omega (arith, i.1.3, size, c.pieces.invariant.few, c.in-Ok.ensures.within, c.read.auto.buf, length-append i.0 piece)) in
     on_err _ stopped
@@ -74,14 +70,14 @@ returns-in-Ended-clause-ran g c = λ p bytes parts text at s.
     let middle = c.pieces.up in
     let last = c.take.new.up in
     let still = λ (call : UpstreamCall) (to : Socket) (refused : refuses first middle call to). g.met.U.Upstream.refuses_still first middle last call to refused c.take.ensures.becomes in
-    let later = λ (call : UpstreamCall) (to : Socket) (refused : refuses middle last call to). g.met.U.Upstream.refuses_later first middle last call to c.pieces.invariant.becomes refused in
+    let later = λ (call : UpstreamCall) (to : Socket) (refused : refuses middle last call to). g.met.U.Upstream.refuses_later first middle last call to c.pieces.invariant.up.becomes refused in
     let size = length-take-le c.in-Ok.size c.read.new.buf c.in-Ok.ensures.within in
     let i = c.pieces.invariant.took in
     let piece : List ℕ = take c.in-Ok.size c.read.new.buf in
     let t = took_kept (refuses first middle) p c.args.w.now c.pieces.w c.pieces.conn (bytes ++ i.0) parts text _ _ _ _ _ (i.1.2 p bytes parts text at s) c.in-Ok.ensures.unwritten in
     let gives = Gives-more _ _ _ i.0 piece i.1.0 c.in-Ok.ensures.gives in
     ran_on (refuses first middle) (refuses middle last) (refuses first last) p c.args.w.now c.pieces.w c.take.new.w c.pieces.conn c.take.new.self bytes i.0 piece _ parts text _ _ _ _ _ c.in-Ended.why still later t
-    (rw c.in-Ended.is at (c.in_ok-take.ensures.served p (bytes ++ i.0) (parts ++ t.more) (text ++ t.wrote) (still_at p c.args.w.now c.pieces.w c.pieces.invariant.fixed at) t.stands))
+    (rw c.in-Ended.is at (c.in_ok-take.ensures.served p (bytes ++ i.0) (parts ++ t.more) (text ++ t.wrote) (still_at p c.args.w.now c.pieces.w c.pieces.invariant.pass.fixed at) t.stands))
     (gives_kept _ _ _ (i.0 ++ piece) gives c.take.ensures.unread)
     (omega (arith, i.1.3, size, c.pieces.invariant.few, c.in-Ok.ensures.within, c.read.auto.buf, length-append i.0 piece))
     (λ over. end_kept _ _ _ (i.0 ++ piece) gives (c.in-Ok.ensures.ends (ap Ok (empty_size c.in-Ok.size c.read.new.buf c.in-Ok.ensures.within over))) c.take.ensures.unread)
@@ -93,7 +89,7 @@ pieces-preserved g c =
     let middle = c.pieces.up in
     let last = c.take.new.up in
     let still = λ (call : UpstreamCall) (to : Socket) (refused : refuses first middle call to). g.met.U.Upstream.refuses_still first middle last call to refused c.take.ensures.becomes in
-    let later = λ (call : UpstreamCall) (to : Socket) (refused : refuses middle last call to). g.met.U.Upstream.refuses_later first middle last call to c.pieces.invariant.becomes refused in
+    let later = λ (call : UpstreamCall) (to : Socket) (refused : refuses middle last call to). g.met.U.Upstream.refuses_later first middle last call to c.pieces.invariant.up.becomes refused in
     let i = c.pieces.invariant.took in
     let piece : List ℕ = take c.in-Ok.size c.read.new.buf in
     let size = length-take-le c.in-Ok.size c.read.new.buf c.in-Ok.ensures.within in
@@ -107,7 +103,7 @@ pieces-preserved g c =
           (λ bytes fed. fed_more c.take.new.self bytes i.0 piece (c.in_ok-take.ensures.short more (bytes ++ i.0) (i.1.1 bytes fed)).0),
           (λ p bytes parts text at s.
               let t = took_kept (refuses first middle) p c.args.w.now c.pieces.w c.pieces.conn (bytes ++ i.0) parts text _ _ _ _ _ (i.1.2 p bytes parts text at s) c.in-Ok.ensures.unwritten in
-              let u = c.in_ok-take.ensures.served p (bytes ++ i.0) (parts ++ t.more) (text ++ t.wrote) (still_at p c.args.w.now c.pieces.w c.pieces.invariant.fixed at) t.stands in
+              let u = c.in_ok-take.ensures.served p (bytes ++ i.0) (parts ++ t.more) (text ++ t.wrote) (still_at p c.args.w.now c.pieces.w c.pieces.invariant.pass.fixed at) t.stands in
               took_on (refuses first middle) (refuses middle last) (refuses first last) p c.args.w.now c.pieces.w c.take.new.w c.pieces.conn c.take.new.self bytes i.0 piece parts text _ _ _ still later t u.took),
           omega (arith, i.1.3, size, length-append i.0 piece),
         ),
@@ -115,12 +111,20 @@ pieces-preserved g c =
       few = omega (arith, i.1.3, size, few.1, length-append (c.requires.serving.bytes ++ i.0) piece, length-append c.requires.serving.bytes i.0);
       serving = c.in_ok-take.ensures.serving more;
       link_later = omega (arith, c.pieces.invariant.link_later, c.read.ensures.counts.later, c.take.ensures.link_later);
-      up_later = omega (arith, c.pieces.invariant.up_later, c.take.ensures.up_later);
-      becomes = g.met.U.Upstream.becomes_then _ _ _ c.pieces.invariant.becomes c.take.ensures.becomes;
-      later = begins_with-trans _ _ _ c.pieces.invariant.later c.take.ensures.later;
-      fixed = c.take.ensures.fixed ∙ c.pieces.invariant.fixed;
-      book = c.take.ensures.book ∙ c.pieces.invariant.book;
       refused = c.in_ok-take.ensures.ok ∙ c.pieces.invariant.refused;
-      ahead = c.take.ensures.ahead ∙ c.pieces.invariant.ahead;
+      up = up_then g.U.Upstream g.met.U.Upstream.becomes_then _ _ _ c.pieces.invariant.up (record { later = c.take.ensures.up_later; becomes = c.take.ensures.becomes });
+      pass = pass_then _ _ _ c.pieces.invariant.pass (record { later = c.take.ensures.later; fixed = c.take.ensures.fixed; book = c.take.ensures.book; ahead = c.take.ensures.ahead });
       door = c.take.ensures.door ∙ c.pieces.invariant.door;
     }
+
+pub returns-in_err-take-clause-up : goal.returns-in_err-take-clause-up
+returns-in_err-take-clause-up g c = up_then g.U.Upstream g.met.U.Upstream.becomes_then _ _ _ c.pieces.invariant.up (record { later = c.take.ensures.up_later; becomes = c.take.ensures.becomes })
+
+pub returns-in_err-take-clause-pass : goal.returns-in_err-take-clause-pass
+returns-in_err-take-clause-pass g c = pass_then _ _ _ c.pieces.invariant.pass (record { later = c.take.ensures.later; fixed = c.take.ensures.fixed; book = c.take.ensures.book; ahead = c.take.ensures.ahead })
+
+pub returns-in-Ended-clause-up : goal.returns-in-Ended-clause-up
+returns-in-Ended-clause-up g c = up_then g.U.Upstream g.met.U.Upstream.becomes_then _ _ _ c.pieces.invariant.up (record { later = c.take.ensures.up_later; becomes = c.take.ensures.becomes })
+
+pub returns-in-Ended-clause-pass : goal.returns-in-Ended-clause-pass
+returns-in-Ended-clause-pass g c = pass_then _ _ _ c.pieces.invariant.pass (record { later = c.take.ensures.later; fixed = c.take.ensures.fixed; book = c.take.ensures.book; ahead = c.take.ensures.ahead })

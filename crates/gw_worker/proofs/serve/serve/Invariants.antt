@@ -2,9 +2,9 @@
 use Rattle.std.proofs.Common.{◌≡◌, ◌≤◌, ◌+◌, ◌-◌, ℕ, List, ◌++◌, length}
 use Rattle.gw_link.specs.Pieces.{Gives}
 use Rattle.gw_message_laws.specs.declared.requests.TheConstants.{MOST_OPEN_BYTES}
-use Rattle.gw_snap.specs.Lists.{BeginsWith}
 use Rattle.gw_worker.specs.Conns.{IsFed, IsServing, StandsFor}
 use Rattle.gw_worker.specs.Flows.{Took, outside}
+use Rattle.gw_worker.specs.Stays.{PassStays, UpstreamStays}
 use Rattle.gw_worker.specs.Workers.{IsAt}
 use Rattle.gw_worker.specs.model.Sessions.{Part, Place}
 use Rattle.gw_worker.proofs.serve.serve.Given as goal
@@ -21,13 +21,9 @@ invariant-pieces g l = record {
   few : l.taken ≤ MOST_OPEN_BYTES;
   serving : IsServing l.conn;
   link_later : g.K.Link.faults l.fn.link ≤ g.K.Link.faults l.link;
-  up_later : g.U.Upstream.faults l.fn.up ≤ g.U.Upstream.faults l.up;
-  becomes : g.U.Upstream.becomes l.fn.up l.up;
-  later : BeginsWith l.fn.w.pass.seen l.w.pass.seen;
-  fixed : l.w.pass.fixed ≡ l.fn.w.pass.fixed;
-  book : l.w.pass.book ≡ l.fn.w.pass.book;
   refused : l.w.pass.refused ≡ l.fn.w.pass.refused;
-  ahead : l.w.pass.ahead ≡ l.fn.w.pass.ahead;
+  up : UpstreamStays g.U.Upstream l.fn.up l.up;
+  pass : PassStays l.fn.w l.w;
   door : l.conn.door ≡ l.fn.conn.door;
 }
 

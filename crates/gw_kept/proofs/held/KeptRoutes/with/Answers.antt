@@ -2,7 +2,7 @@
 use Rattle.std.proofs.Common.{◌≡◌, ◌∙◌, ◌++◌, IfSome, Option, ap, map, refl, sym, subst, option_to_list, rules}
 use Rattle.std.specs.Arc.{arc_value}
 use Rattle.std.specs.Option.{option_copied}
-use Rattle.gw_counts.specs.Counts.{AreCounts}
+use Rattle.gw_kept.specs.Counts.{AreCounts}
 use Rattle.gw_eval.specs.Kept.{KeptRoute}
 use Rattle.gw_kept.proofs.With.{found_after, held_after, same_after, take_all}
 use Rattle.gw_kept.specs.Held.{Held, IsEvaluated, door_with}

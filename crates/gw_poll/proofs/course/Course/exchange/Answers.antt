@@ -75,3 +75,19 @@ pub returns-clause-going : goal.returns-clause-going
 returns-clause-going g c = λ bytes going.
     let on = c.in-Pending.ensures.on going.at.1.0 going.at.1.1 in
     record { fed = going.fed; at = (going.at.0, (on.met', on.stands)) }
+
+pub returns-in-Ready-Ok-clause-up : goal.returns-in-Ready-Ok-clause-up
+returns-in-Ready-Ok-clause-up g c =
+    record { becomes = c.poll.ensures.goes; unmarked = c.poll.ensures.unmarked; same = c.poll.ensures.same; later = c.poll.ensures.later; waits = c.poll.ensures.waits.later }
+
+pub returns-in-Ready-Err-Backend-clause-up : goal.returns-in-Ready-Err-Backend-clause-up
+returns-in-Ready-Err-Backend-clause-up g c =
+    record { becomes = c.poll.ensures.goes; unmarked = c.poll.ensures.unmarked; same = c.poll.ensures.same; later = c.poll.ensures.later; waits = c.poll.ensures.waits.later }
+
+pub returns-in-Ready-Err-NoMemory-clause-up : goal.returns-in-Ready-Err-NoMemory-clause-up
+returns-in-Ready-Err-NoMemory-clause-up g c =
+    record { becomes = c.poll.ensures.goes; unmarked = c.poll.ensures.unmarked; same = c.poll.ensures.same; later = c.poll.ensures.later; waits = c.poll.ensures.waits.later }
+
+pub returns-clause-up : goal.returns-clause-up
+returns-clause-up g c =
+    record { becomes = c.poll.ensures.goes; unmarked = c.poll.ensures.unmarked; same = c.poll.ensures.same; later = c.poll.ensures.later; waits = c.poll.ensures.waits.later }

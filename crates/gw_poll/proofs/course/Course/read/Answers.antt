@@ -59,3 +59,15 @@ returns-in-Ready-Err-clause-broke g c = λ w p h x n f.
 pub returns-in-Pending-clause-goes : goal.returns-in-Pending-clause-goes
 returns-in-Pending-clause-goes g c = λ w p h x n f.
     goes_kept no_call p w c.args.self.now h _ _ _ _ x n c.in-Pending.ensures.kept c.poll_read.ensures.unwritten f
+
+pub returns-in-Ready-Ok-clause-link : goal.returns-in-Ready-Ok-clause-link
+returns-in-Ready-Ok-clause-link g c =
+    record { unended = c.poll_read.ensures.unended; unmarked = c.poll_read.ensures.unmarked; same = c.poll_read.ensures.same; later = c.poll_read.ensures.counts.later; read_waits = c.poll_read.ensures.waits.later; write_waits = omega (arith, c.poll_read.ensures.unwaited) }
+
+pub returns-in-Ready-Err-clause-link : goal.returns-in-Ready-Err-clause-link
+returns-in-Ready-Err-clause-link g c =
+    record { unended = c.poll_read.ensures.unended; unmarked = c.poll_read.ensures.unmarked; same = c.poll_read.ensures.same; later = c.poll_read.ensures.counts.later; read_waits = c.poll_read.ensures.waits.later; write_waits = omega (arith, c.poll_read.ensures.unwaited) }
+
+pub returns-in-Pending-clause-link : goal.returns-in-Pending-clause-link
+returns-in-Pending-clause-link g c =
+    record { unended = c.poll_read.ensures.unended; unmarked = c.poll_read.ensures.unmarked; same = c.poll_read.ensures.same; later = c.poll_read.ensures.counts.later; read_waits = c.poll_read.ensures.waits.later; write_waits = omega (arith, c.poll_read.ensures.unwaited) }

@@ -1,14 +1,15 @@
 -- By what comes next.
 use Rattle.std.proofs.Common.{◌≡◌, ◌∙◌, ◌<◌, ℕ, List, Option, Some, None, inl, inr, sym, subst}
-use Rattle.gw_link.proofs.KeptLemmas.{keeps_self}
-use Rattle.gw_lists.proofs.Beginnings.{begins_with-self}
 use Rattle.gw_poll_exchange.proofs.Ending.{pending_map}
+use Rattle.gw_poll_exchange.proofs.Staying.{up_self}
+use Rattle.gw_worker.proofs.Staying.{pass_self}
 use Rattle.gw_worker.specs.Flows.{outside}
 use Rattle.gw_worker.specs.declared.serve.ConnFault.{ConnFault}
 use Rattle.gw_worker.specs.declared.serve.Flow.{Flow}
 use Rattle.gw_worker.specs.declared.serve.Flow.TheVariants.{More}
 use Rattle.gw_poll.proofs.Going.{gives_up_wider, goes_self, goes_wider}
 use Rattle.gw_poll.proofs.Keeping.{cause_apart, done_at, failed_map, fewer_written, going_done, going_map, if_done_map, if_failed_map, never, none_refused}
+use Rattle.gw_poll.proofs.Staying.{link_self}
 use Rattle.gw_poll.specs.Causes.{HasCause}
 use Rattle.gw_poll.specs.Courses.{Follows, IsGoing, IsHeld, steps_left}
 use Rattle.gw_poll.specs.declared.course.Stage.{Stage}
@@ -123,32 +124,11 @@ returns-in-Turning-clause-waits g c = never _ c.next.result c.next.ensures.ready
 pub returns-in-Turning-clause-ready : goal.returns-in-Turning-clause-ready
 returns-in-Turning-clause-ready g c = never _ c.next.result c.next.ensures.ready
 
-pub returns-in-Turning-clause-unread : goal.returns-in-Turning-clause-unread
-returns-in-Turning-clause-unread g c = keeps_self _
-
-pub returns-in-Turning-clause-unended : goal.returns-in-Turning-clause-unended
-returns-in-Turning-clause-unended g c = keeps_self _
-
-pub returns-in-Turning-clause-becomes : goal.returns-in-Turning-clause-becomes
-returns-in-Turning-clause-becomes g c = g.met.U.PollUpstream.becomes_self _
-
 pub returns-in-Reading-clause-fewer : goal.returns-in-Reading-clause-fewer
 returns-in-Reading-clause-fewer g c = λ is. absurd (cc is)
 
 pub returns-in-Reading-clause-ended : goal.returns-in-Reading-clause-ended
 returns-in-Reading-clause-ended g c = λ why is. absurd (cc is)
-
-pub returns-in-Reading-clause-later : goal.returns-in-Reading-clause-later
-returns-in-Reading-clause-later g c = begins_with-self _
-
-pub returns-in-Reading-clause-unread : goal.returns-in-Reading-clause-unread
-returns-in-Reading-clause-unread g c = keeps_self _
-
-pub returns-in-Reading-clause-unended : goal.returns-in-Reading-clause-unended
-returns-in-Reading-clause-unended g c = keeps_self _
-
-pub returns-in-Reading-clause-becomes : goal.returns-in-Reading-clause-becomes
-returns-in-Reading-clause-becomes g c = g.met.U.PollUpstream.becomes_self _
 
 pub returns-in-Writing-clause-fewer : goal.returns-in-Writing-clause-fewer
 returns-in-Writing-clause-fewer g c = λ is bytes going.
@@ -176,12 +156,6 @@ returns-in-Writing-clause-waits g c = pending_map c.write.result (λ waited. inl
 
 pub returns-in-Writing-clause-ready : goal.returns-in-Writing-clause-ready
 returns-in-Writing-clause-ready g c = pending_map c.write.result (λ marked none up_none. marked none) c.write.ensures.ready
-
-pub returns-in-Writing-clause-later : goal.returns-in-Writing-clause-later
-returns-in-Writing-clause-later g c = begins_with-self _
-
-pub returns-in-Writing-clause-becomes : goal.returns-in-Writing-clause-becomes
-returns-in-Writing-clause-becomes g c = g.met.U.PollUpstream.becomes_self _
 
 pub returns-in-Exchanging-clause-fewer : goal.returns-in-Exchanging-clause-fewer
 returns-in-Exchanging-clause-fewer g c = λ is bytes going.
@@ -213,11 +187,29 @@ returns-in-Exchanging-clause-waits g c = pending_map c.exchange.result (λ waite
 pub returns-in-Exchanging-clause-ready : goal.returns-in-Exchanging-clause-ready
 returns-in-Exchanging-clause-ready g c = pending_map c.exchange.result (λ marked none. marked) c.exchange.ensures.ready
 
-pub returns-in-Exchanging-clause-later : goal.returns-in-Exchanging-clause-later
-returns-in-Exchanging-clause-later g c = rw c.exchange.ensures.worker (begins_with-self _)
+pub returns-in-Turning-clause-link : goal.returns-in-Turning-clause-link
+returns-in-Turning-clause-link g c = link_self g.K.PollLink _
 
-pub returns-in-Exchanging-clause-unread : goal.returns-in-Exchanging-clause-unread
-returns-in-Exchanging-clause-unread g c = keeps_self _
+pub returns-in-Reading-clause-link : goal.returns-in-Reading-clause-link
+returns-in-Reading-clause-link g c = link_self g.K.PollLink _
 
-pub returns-in-Exchanging-clause-unended : goal.returns-in-Exchanging-clause-unended
-returns-in-Exchanging-clause-unended g c = keeps_self _
+pub returns-in-Exchanging-clause-link : goal.returns-in-Exchanging-clause-link
+returns-in-Exchanging-clause-link g c = link_self g.K.PollLink _
+
+pub returns-in-Turning-clause-up : goal.returns-in-Turning-clause-up
+returns-in-Turning-clause-up g c = up_self g.U.PollUpstream g.met.U.PollUpstream.becomes_self _
+
+pub returns-in-Reading-clause-up : goal.returns-in-Reading-clause-up
+returns-in-Reading-clause-up g c = up_self g.U.PollUpstream g.met.U.PollUpstream.becomes_self _
+
+pub returns-in-Writing-clause-up : goal.returns-in-Writing-clause-up
+returns-in-Writing-clause-up g c = up_self g.U.PollUpstream g.met.U.PollUpstream.becomes_self _
+
+pub returns-in-Reading-clause-pass : goal.returns-in-Reading-clause-pass
+returns-in-Reading-clause-pass g c = pass_self _
+
+pub returns-in-Writing-clause-pass : goal.returns-in-Writing-clause-pass
+returns-in-Writing-clause-pass g c = pass_self _
+
+pub returns-in-Exchanging-clause-pass : goal.returns-in-Exchanging-clause-pass
+returns-in-Exchanging-clause-pass g c = rw c.exchange.ensures.worker (pass_self _)

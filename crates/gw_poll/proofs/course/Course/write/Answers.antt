@@ -29,3 +29,15 @@ returns-clause-goes g c = λ w p h x n f.
 
 pub returns-clause-going : goal.returns-clause-going
 returns-clause-going g c = λ bytes going. record { fed = going.fed; at = (going.at.0, rw c.bytes.ensures at c.write_on.ensures.within) }
+
+pub returns-in-Ready-Ok-clause-link : goal.returns-in-Ready-Ok-clause-link
+returns-in-Ready-Ok-clause-link g c =
+    record { unread = c.write_on.ensures.unread; unended = c.write_on.ensures.unended; unmarked = c.write_on.ensures.unmarked; same = c.write_on.ensures.same; later = c.write_on.ensures.counts.later; unread_waits = c.write_on.ensures.unwaited; write_waits = c.write_on.ensures.waits.later }
+
+pub returns-in-Ready-Err-clause-link : goal.returns-in-Ready-Err-clause-link
+returns-in-Ready-Err-clause-link g c =
+    record { unread = c.write_on.ensures.unread; unended = c.write_on.ensures.unended; unmarked = c.write_on.ensures.unmarked; same = c.write_on.ensures.same; later = c.write_on.ensures.counts.later; unread_waits = c.write_on.ensures.unwaited; write_waits = c.write_on.ensures.waits.later }
+
+pub returns-clause-link : goal.returns-clause-link
+returns-clause-link g c =
+    record { unread = c.write_on.ensures.unread; unended = c.write_on.ensures.unended; unmarked = c.write_on.ensures.unmarked; same = c.write_on.ensures.same; later = c.write_on.ensures.counts.later; unread_waits = c.write_on.ensures.unwaited; write_waits = c.write_on.ensures.waits.later }

@@ -3,6 +3,7 @@ use Rattle.std.proofs.Common.{◌∙◌, ap, is_some}
 use Rattle.gw_link.specs.declared.order.UpstreamCall.TheVariants.{Send}
 use Rattle.gw_exchange.proofs.Ending.{at_socket, refused_wider}
 use Rattle.gw_poll_exchange.proofs.Ending.{goes_received, goes_sent, open_of, over_received, over_unsent, pending_map, ready_map}
+use Rattle.gw_poll_exchange.proofs.Staying.{up_then}
 use Rattle.gw_poll_exchange.proofs.polled.PolledExchange.converse.Goals as goal
 
 pub send_on-requires-clause-connected : goal.send_on-requires-clause-connected
@@ -64,3 +65,8 @@ returns-in-Pending-clause-on g c = λ met stands.
     let o = open_of x met stands c.requires.connected in
     goes_sent x met c.send_on.new.sent _ _ o c.requires.connected c.send_on.ensures.later
     (rw c.bytes.ensures at c.send_on.ensures.within) (rw c.bytes.ensures at c.send_on.ensures.sends)
+
+pub returns-in-Ready-Ok-clause-up : goal.returns-in-Ready-Ok-clause-up
+returns-in-Ready-Ok-clause-up g c =
+    up_then g.U.PollUpstream g.met.U.PollUpstream.becomes_then _ _ _
+    (record { becomes = c.send_on.ensures.goes; unmarked = c.send_on.ensures.unmarked; same = c.send_on.ensures.same; later = c.send_on.ensures.counts.later; waits = c.send_on.ensures.waits.later }) c.receive.ensures.up

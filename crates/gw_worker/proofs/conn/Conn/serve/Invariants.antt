@@ -1,10 +1,9 @@
 -- The connection went on so far.
-use Rattle.std.proofs.Common.{◌≡◌, ◌≤◌, ℕ, List}
+use Rattle.std.proofs.Common.{◌≡◌, ℕ, List}
 use Rattle.gw_frames.specs.Inlets.{is_over}
-use Rattle.gw_link.specs.Pieces.{Keeps}
-use Rattle.gw_snap.specs.Lists.{BeginsWith}
 use Rattle.gw_worker.specs.Conns.{GoesOn, IsSettled, StandsFor, turns_left}
 use Rattle.gw_worker.specs.Flows.{Took, outside}
+use Rattle.gw_worker.specs.Stays.{LinkStays, PassStays, UpstreamStays}
 use Rattle.gw_worker.specs.Workers.{IsAt}
 use Rattle.gw_worker.specs.model.Sessions.{Part, Place}
 use Rattle.gw_worker.proofs.conn.Conn.serve.Given as goal
@@ -18,15 +17,10 @@ invariant-turns g l = record {
   settled : IsSettled l.self.stage;
   inlet : GoesOn l.fn.self.inlet l.self.inlet;
   over : is_over l.self.inlet ≡ is_over l.fn.self.inlet;
-  unread : Keeps (g.K.Link.left l.fn.link) (g.K.Link.left l.link);
-  link_later : g.K.Link.faults l.fn.link ≤ g.K.Link.faults l.link;
-  up_later : g.U.Upstream.faults l.fn.up ≤ g.U.Upstream.faults l.up;
-  becomes : g.U.Upstream.becomes l.fn.up l.up;
-  later : BeginsWith l.fn.w.pass.seen l.w.pass.seen;
-  fixed : l.w.pass.fixed ≡ l.fn.w.pass.fixed;
-  book : l.w.pass.book ≡ l.fn.w.pass.book;
   refused : l.w.pass.refused ≡ l.fn.w.pass.refused;
-  ahead : l.w.pass.ahead ≡ l.fn.w.pass.ahead;
+  link : LinkStays g.K.Link l.fn.link l.link;
+  up : UpstreamStays g.U.Upstream l.fn.up l.up;
+  pass : PassStays l.fn.w l.w;
   door : l.self.door ≡ l.fn.self.door;
 }
 

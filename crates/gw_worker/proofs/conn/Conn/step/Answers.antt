@@ -7,6 +7,7 @@ use Rattle.gw_frames.specs.declared.inlet.Inlet.{Inlet}
 use Rattle.gw_frames.specs.declared.step.Step.TheVariants as steps
 use Rattle.gw_frames.specs.model.Requests.{Step, a_break, a_continue, a_refusal, an_ask, an_end}
 use Rattle.gw_worker.proofs.Serving.{continues_alone, continues_with, ok_with}
+use Rattle.gw_worker.proofs.Staying.{pass_self}
 use Rattle.gw_worker.proofs.Stepping.{Steps, active_no_need, behind_step, end_leaves, end_no_need, goes_by_same, goes_by_step, leaves_fewer, leaves_none, says_need, stands_still, still_open}
 use Rattle.gw_snap.specs.declared.fault.OpenFault.{OpenFault}
 use Rattle.gw_worker.specs.Turns.{IsActive}
@@ -155,3 +156,27 @@ returns-in_err-refuse-in-Bad-clause-err c = on_err c.from_residual-in_err-refuse
       (behind_step c.args.self.now c.next.new.self (steps.Bad c.in-Bad.code) (a_refusal c.in-Bad.code) p bytes parts text (rw c.in-Bad.is at c.in_ok-next.ensures.stands) refl c.requires.reading s).inlet;
   left = (refl, refl);
 })
+
+pub returns-in_err-next-clause-pass : goal.returns-in_err-next-clause-pass
+returns-in_err-next-clause-pass c = pass_self _
+
+pub returns-in-Need-clause-pass : goal.returns-in-Need-clause-pass
+returns-in-Need-clause-pass c = pass_self _
+
+pub returns-in_ok-announce-in-Continue-clause-pass : goal.returns-in_ok-announce-in-Continue-clause-pass
+returns-in_ok-announce-in-Continue-clause-pass c = pass_self _
+
+pub returns-in_err-announce-in-Continue-clause-pass : goal.returns-in_err-announce-in-Continue-clause-pass
+returns-in_err-announce-in-Continue-clause-pass c = pass_self _
+
+pub returns-in_ok-refuse-in-Bad-clause-pass : goal.returns-in_ok-refuse-in-Bad-clause-pass
+returns-in_ok-refuse-in-Bad-clause-pass c = pass_self _
+
+pub returns-in_err-refuse-in-Bad-clause-pass : goal.returns-in_err-refuse-in-Bad-clause-pass
+returns-in_err-refuse-in-Bad-clause-pass c = pass_self _
+
+pub returns-in-End-clause-pass : goal.returns-in-End-clause-pass
+returns-in-End-clause-pass c = pass_self _
+
+pub returns-in-Truncated-clause-pass : goal.returns-in-Truncated-clause-pass
+returns-in-Truncated-clause-pass c = pass_self _

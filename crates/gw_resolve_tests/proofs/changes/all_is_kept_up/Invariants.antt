@@ -1,5 +1,0 @@
--- The steps are those of the ledger that is made for them.
-use Rattle.gw_resolve_tests.proofs.changes.all_is_kept_up.Given as goal
-
-abbrev pub ghosts-take_all : goal.ghosts-take_all
-ghosts-take_all a = record { name = a.blank.name; parts = a.blank.parts }

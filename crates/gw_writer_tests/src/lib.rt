@@ -1,5 +1,0 @@
-//! Tests of messages into bytes, over public calls. They stand alone, since a crate with tests is proved twice.
-#![tactic(auto)]
-
-#[cfg(test)]
-mod writers;
