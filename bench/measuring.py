@@ -5,8 +5,7 @@ import subprocess
 import sys
 import tempfile
 
-TOP = os.path.dirname(os.path.dirname(os.path.abspath(__file__)))
-
+from support.program import TOP
 
 # Of a program: a class, a Gateway with one listener and its door, the lines of a Route with a hostname of its own, of a Service and of a slice with one
 # address, and a world that takes a line.
@@ -64,6 +63,18 @@ fn first_table(alloc: Global, world: &World, doors: &Doors, controller: &Text) -
     rows_of_a_door_stand_listener_by_listener();
     let rows = eval_rows(alloc, world, doors, controller, 0)?;
     Ok(Some(DoorTable::compile(alloc, rows)?))
+}
+
+"""
+
+FIRST_REQUEST = r"""// The request that bytes begin with, if they hold one whole.
+fn first_request(alloc: Global, bytes: &[u8]) -> Result<Option<Request>, NoMemory> {
+    let mut inlet = Inlet::new(alloc);
+    inlet.feed(bytes)?;
+    match inlet.next()? {
+        Step::Ask(request) => Ok(Some(Box::into_inner(request))),
+        _ => Ok(None),
+    }
 }
 
 """

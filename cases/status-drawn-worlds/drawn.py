@@ -1,24 +1,26 @@
 #!/usr/bin/env python3
-"""Draws worlds of objects from seeds, and evaluates them a second time, with plain loops over everything and no thought of speed.
+"""Draws worlds of objects from seeds, and evaluates them a second time, by cases/worlds.py.
 
     drawn.py lines     prints the events of all worlds, one world after another, which make one input
     drawn.py text      prints what `status` has to print for that input, and fails where something of WANTED occurs in no world
 
 The names of a world begin with its seed, so no object of one world has to do with one of another: each world is evaluated alone, and the
-lines of all are printed in the order of their keys. The rules are those of docs/reference.md, under "Lines" and "The text"; controller and
-DOORs are those of the file `words`. Pools of names are small, so that objects often meet.
+lines of all are printed in the order of their keys. Controller and DOORs are those of the file `words`. Pools of names are small, so that
+objects often meet.
 """
 import json
 import pathlib
 import random
 import sys
 
+# (no folder for compiled files, which would be a case)
+sys.dont_write_bytecode = True
+sys.path.insert(0, str(pathlib.Path(__file__).parent.parent))
+from worlds import GROUP, VERSIONS, World, compact, in_order, is_true, key, show, shown, status_line  # noqa: E402
+
 SEEDS = range(200)
 WORDS = (pathlib.Path(__file__).parent / "words").read_text().splitlines()
 CONTROLLER = WORDS[1].split("=")[1]
-GROUP = "gateway.networking.k8s.io"
-VERSIONS = {"GatewayClass": GROUP + "/v1", "Gateway": GROUP + "/v1", "HTTPRoute": GROUP + "/v1", "ReferenceGrant": GROUP + "/v1beta1",
-            "Namespace": "v1", "Service": "v1", "EndpointSlice": "discovery.k8s.io/v1"}
 OTHER_VERSIONS = {"GatewayClass": GROUP + "/v1beta1", "Gateway": GROUP + "/v1beta1", "HTTPRoute": GROUP + "/v1alpha2",
                   "ReferenceGrant": GROUP + "/v1", "Namespace": "v2", "Service": "v1beta1", "EndpointSlice": "discovery.k8s.io/v1beta1"}
 
@@ -227,377 +229,7 @@ def given(**fields):
 
 
 # ---------------------------------------------------------------------------------------------------------------------------------------
-# The second evaluation.
-
-shown = set()
-
-
-def show(*words):
-    """Notes that something is shown by these worlds."""
-    shown.add(" ".join(str(word) for word in words))
-
-
-def compact(value):
-    return json.dumps(value, sort_keys=True, separators=(",", ":"))
-
-
-def condition(kind, truth, reason):
-    return {"type": kind, "status": "True" if truth else "False", "reason": reason}
-
-
-def is_true(kind, conditions):
-    return any(c["type"] == kind and c["status"] == "True" for c in conditions)
-
-
-def covers(host, name):
-    """Whether a hostname, or none, covers a precise name."""
-    if host is None:
-        return True
-    return name.endswith(host[1:]) if host.startswith("*.") else name == host
-
-
-# Of any two hostnames that have a name in common, one in common is among these.
-UNIVERSE = [host.replace("*", "z") for host in HOSTS if host]
-
-
-def meet(host, hostnames):
-    """Whether a listener's hostname has a name in common with a Route's."""
-    return not hostnames or any(covers(host, name) and covers(other, name) for other in hostnames for name in UNIVERSE)
-
-
-def selects(selector, labels):
-    for name, value in (selector.get("matchLabels") or {}).items():
-        show("matchLabels", labels.get(name) == value)
-        if labels.get(name) != value:
-            return False
-    for expression in selector.get("matchExpressions", []):
-        key, operator, values = expression["key"], expression["operator"], expression.get("values")
-        holds = {"In": key in labels and labels[key] in (values or []), "NotIn": key not in labels or labels[key] not in (values or []),
-                 "Exists": key in labels, "DoesNotExist": key not in labels}[operator]
-        show(operator, "of a label" if key in labels else "without the label", holds)
-        if not holds:
-            return False
-    return True
-
-
-UNSUPPORTED_EDITS = ["host", "connection", "content-length", "transfer-encoding", "keep-alive", "proxy-connection", "te", "trailer", "upgrade"]
-MODIFIERS = {"RequestHeaderModifier": "requestHeaderModifier", "ResponseHeaderModifier": "responseHeaderModifier"}
-PATHS = {"RequestRedirect": "requestRedirect", "URLRewrite": "urlRewrite"}
-
-
-def matches_of(rule):
-    return rule.get("matches") or [{"path": {"type": "PathPrefix", "value": "/"}}]
-
-
-def path_type(match):
-    return match.get("path", {}).get("type", "PathPrefix")
-
-
-def paths_of(rule):
-    """The path modifiers of its filters."""
-    found = [f[PATHS[f["type"]]].get("path") for f in rule.get("filters", []) if f["type"] in PATHS]
-    return [path for path in found if path is not None]
-
-
-def unsupported(rule):
-    """What isn't supported in a rule."""
-    for match in matches_of(rule):
-        if path_type(match) not in ["Exact", "PathPrefix"]:
-            yield "path"
-        if any(header.get("type", "Exact") != "Exact" for header in match.get("headers", [])):
-            yield "header"
-        if any(query.get("type", "Exact") != "Exact" for query in match.get("queryParams", [])):
-            yield "query"
-        if match.get("method", "GET") not in "GET HEAD POST PUT DELETE CONNECT OPTIONS TRACE PATCH".split():
-            yield "method"
-    for one in rule.get("filters", []):
-        if one["type"] not in [*MODIFIERS, *PATHS]:
-            yield "filter"
-        if one["type"] in MODIFIERS:
-            edits = one[MODIFIERS[one["type"]]]
-            names = [edit["name"] for edit in edits.get("set", []) + edits.get("add", [])] + edits.get("remove", [])
-            if any(name.lower() in UNSUPPORTED_EDITS for name in names):
-                yield "edit"
-        if one["type"] == "RequestRedirect":
-            if one["requestRedirect"].get("scheme", "http") not in ["http", "https"]:
-                yield "scheme"
-            if one["requestRedirect"].get("statusCode", 302) not in [301, 302]:
-                yield "statusCode"
-    if any(path["type"] not in ["ReplaceFullPath", "ReplacePrefixMatch"] for path in paths_of(rule)):
-        yield "modifier"
-    if any(reference.get("filters") for reference in rule.get("backendRefs", [])):
-        yield "filters of a backendRef"
-    if "timeouts" in rule:
-        yield "timeouts"
-
-
-def incompatible(rule):
-    """What can't be together in a rule."""
-    types = [one["type"] for one in rule.get("filters", [])]
-    matches = matches_of(rule)
-    if any(types.count(one) > 1 for one in types):
-        yield "two of one type"
-    if "RequestRedirect" in types and "URLRewrite" in types:
-        yield "redirect and rewrite"
-    if "RequestRedirect" in types and rule.get("backendRefs"):
-        yield "redirect and backendRefs"
-    if any(path["type"] == "ReplacePrefixMatch" for path in paths_of(rule)):
-        if len(matches) > 1:
-            yield "prefix of several matches"
-        if len(matches) == 1 and path_type(matches[0]) != "PathPrefix":
-            yield "prefix of a path that is none"
-    elif paths_of(rule):
-        show("a full path of", "several matches" if len(matches) > 1 else path_type(matches[0]))
-
-
-class World:
-    """The objects that are held after the events of a world, of which the first line has this number."""
-
-    def __init__(self, events, number):
-        self.held = []
-        self.refused, self.changes, self.skipped = [], 0, 0
-        self.doors = {}
-        for word in WORDS[2:]:
-            door, socket = word.split("=")
-            gateway, port = door.split(":")
-            self.doors.setdefault(gateway, {})[int(port)] = socket.split(":")[0]
-        for number, event in enumerate(events, number):
-            self.take(number, event)
-
-    def take(self, number, event):
-        thing = event["object"]
-        if event["type"] == "BOOKMARK" or thing["apiVersion"] != VERSIONS[thing["kind"]]:
-            self.skipped += 1
-        elif thing["metadata"].get("generation", 1) < 0 and event["type"] != "DELETED":
-            self.refused.append({"line": number, "path": "metadata.generation", "refusal": 5})
-        else:
-            self.changes += 1
-            there = [other for other in self.held if (other["kind"], key(other)) == (thing["kind"], key(thing))]
-            show(event["type"], "of an object that is held" if there else "of one that isn't")
-            self.held = [other for other in self.held if (other["kind"], key(other)) != (thing["kind"], key(thing))]
-            if event["type"] != "DELETED":
-                self.held.append(thing)
-
-    def all(self, kind):
-        return [thing for thing in self.held if thing["kind"] == kind]
-
-    def of(self, kind, namespace, name):
-        """The object of this key, or None."""
-        for thing in self.all(kind):
-            if thing["metadata"]["name"] == name and thing["metadata"].get("namespace") == namespace:
-                return thing
-        return None
-
-    def classes(self):
-        for thing in self.all("GatewayClass"):
-            if thing["spec"]["controllerName"] == CONTROLLER:
-                bad = "parametersRef" in thing["spec"]
-                yield thing, {"conditions": [condition("Accepted", not bad, "InvalidParameters" if bad else "Accepted")]}
-
-    def is_managed(self, gateway):
-        return any(thing["metadata"]["name"] == gateway["spec"]["gatewayClassName"] and is_true("Accepted", status["conditions"])
-                   for thing, status in self.classes())
-
-    # Listeners and Gateways.
-
-    def conflict(self, gateway, listener):
-        """The reason of a conflict, or None."""
-        others = [other for other in gateway["spec"]["listeners"] if other["name"] != listener["name"] and other["port"] == listener["port"]]
-        for other in others:
-            one, two = listener["protocol"], other["protocol"]
-            if (one == "HTTP" and two in ["HTTPS", "TLS", "TCP"]) or (two == "HTTP" and one in ["HTTPS", "TLS", "TCP"]):
-                return "ProtocolConflict"
-            show(*sorted([one, two]), "at one port,", listener.get("hostname") == other.get("hostname"))
-        for other in others:
-            if listener["protocol"] == other["protocol"] == "HTTP" and listener.get("hostname") == other.get("hostname"):
-                return "HostnameConflict"
-        return None
-
-    def supports_routes(self, listener):
-        kinds = listener.get("allowedRoutes", {}).get("kinds") or [{"kind": "HTTPRoute"}]
-        return listener["protocol"] == "HTTP" and any(self.is_route_kind(kind) for kind in kinds)
-
-    def is_route_kind(self, kind):
-        return kind.get("group", GROUP) == GROUP and kind["kind"] == "HTTPRoute"
-
-    def address(self, gateway):
-        """The address of its DOORs, or None."""
-        return next(iter(self.doors.get(key(gateway), {}).values()), None)
-
-    def has_other_addresses(self, gateway):
-        return any(address.get("type", "IPAddress") != "IPAddress" for address in gateway["spec"].get("addresses", []))
-
-    def has_wrong_addresses(self, gateway):
-        return any(address.get("type", "IPAddress") == "IPAddress" and address.get("value") and address["value"] != self.address(gateway)
-                   for address in gateway["spec"].get("addresses", []))
-
-    def listener_conditions(self, gateway, listener):
-        conflict = self.conflict(gateway, listener)
-        refusal = (conflict or (listener["protocol"] != "HTTP" and "UnsupportedProtocol")
-                   or (listener["port"] not in self.doors.get(key(gateway), {}) and "PortUnavailable"))
-        kinds = listener.get("allowedRoutes", {}).get("kinds") or []
-        bad_kinds = any(listener["protocol"] != "HTTP" or not self.is_route_kind(kind) for kind in kinds)
-        fault = self.has_other_addresses(gateway) or self.has_wrong_addresses(gateway) or self.address(gateway) is None
-        programmed = not refusal and self.supports_routes(listener) and not fault
-        return [condition("Accepted", not refusal, refusal or "Accepted"),
-                condition("Conflicted", conflict, conflict or "NoConflicts"),
-                condition("Programmed", programmed, "Programmed" if programmed else "Invalid"),
-                condition("ResolvedRefs", not bad_kinds, "InvalidRouteKinds" if bad_kinds else "ResolvedRefs")]
-
-    def gateway_status(self, gateway):
-        listeners = []
-        for listener in gateway["spec"]["listeners"]:
-            conditions = self.listener_conditions(gateway, listener)
-            listeners.append({"name": listener["name"], "conditions": conditions, "attachedRoutes": self.attached(gateway, listener),
-                              "supportedKinds": [{"group": GROUP, "kind": "HTTPRoute"}] if self.supports_routes(listener) else []})
-        valid = [is_true("Accepted", listener["conditions"]) for listener in listeners]
-        if self.has_other_addresses(gateway):
-            accepted = condition("Accepted", False, "UnsupportedAddress")
-        elif not all(valid):
-            accepted = condition("Accepted", any(valid), "ListenersNotValid")
-        else:
-            accepted = condition("Accepted", True, "Accepted")
-        if self.address(gateway) is None:
-            programmed = condition("Programmed", False, "AddressNotAssigned")
-        elif self.has_wrong_addresses(gateway):
-            programmed = condition("Programmed", False, "AddressNotUsable")
-        elif accepted["status"] == "False" or not any(is_true("Programmed", listener["conditions"]) for listener in listeners):
-            programmed = condition("Programmed", False, "Invalid")
-        else:
-            programmed = condition("Programmed", True, "Programmed")
-        addresses = [{"type": "IPAddress", "value": self.address(gateway)}] if programmed["status"] == "True" else []
-        return {"addresses": addresses, "conditions": [accepted, programmed], "listeners": listeners}
-
-    # Routes at their Gateways.
-
-    def labels(self, namespace):
-        held = self.of("Namespace", None, namespace)
-        labels = {} if held is None else held["metadata"].get("labels", {})
-        return {**labels, "kubernetes.io/metadata.name": namespace}
-
-    def is_selected(self, listener, parent):
-        return parent.get("sectionName") in [None, listener["name"]] and parent.get("port") in [None, listener["port"]]
-
-    def allows(self, gateway, listener, route):
-        namespaces = listener.get("allowedRoutes", {}).get("namespaces", {})
-        own, other = gateway["metadata"]["namespace"], route["metadata"]["namespace"]
-        if not self.supports_routes(listener):
-            return False
-        if namespaces.get("from", "Same") == "Same":
-            return own == other
-        if namespaces["from"] == "All":
-            return True
-        selector = namespaces.get("selector")
-        show("no selector" if selector is None else "a selector", "and a Namespace" if self.of("Namespace", None, other) else "and no Namespace")
-        return selector is not None and selects(selector, self.labels(other))
-
-    def entry(self, gateway, route, parent):
-        """The reason of Accepted, and the names of the listeners to which the Route is attached."""
-        hostnames = route["spec"].get("hostnames", [])
-        rules = route["spec"].get("rules", [{}])
-        selected = [one for one in gateway["spec"]["listeners"] if self.is_selected(one, parent)]
-        allowing = [one for one in selected if self.allows(gateway, one, route)]
-        meeting = [one for one in allowing if meet(one.get("hostname"), hostnames)]
-        if not selected:
-            return "NoMatchingParent", []
-        if not allowing:
-            return "NotAllowedByListeners", []
-        if not meeting:
-            return "NoMatchingListenerHostname", []
-        faults = [fault for rule in rules for fault in unsupported(rule)]
-        if faults:
-            show("unsupported", faults[0] if len(set(faults)) == 1 else "several")
-            return "UnsupportedValue", []
-        faults = [fault for rule in rules for fault in incompatible(rule)]
-        if faults:
-            show("incompatible", faults[0] if len(set(faults)) == 1 else "several")
-            return "IncompatibleFilters", []
-        return "Accepted", [one["name"] for one in meeting]
-
-    def entries(self, route):
-        """Each parentRef that has an entry, as it is printed, with its Gateway."""
-        for parent in route["spec"].get("parentRefs", []):
-            whole = {"group": GROUP, "kind": "Gateway", "namespace": route["metadata"]["namespace"], **parent}
-            gateway = self.of("Gateway", whole["namespace"], whole["name"])
-            if whole["group"] == GROUP and whole["kind"] == "Gateway" and gateway and self.is_managed(gateway):
-                yield whole, gateway
-
-    def attached(self, gateway, listener):
-        """How many Routes are attached to the listener, each counted once."""
-        count = 0
-        for route in self.all("HTTPRoute"):
-            entries = [listener["name"] in self.entry(gateway, route, parent)[1] for parent, other in self.entries(route) if other is gateway]
-            show("attached to a listener by", entries.count(True), "entries")
-            count += any(entries)
-        return count
-
-    # References.
-
-    def permits(self, grant, route, name):
-        spec = grant["spec"]
-        source = {"group": GROUP, "kind": "HTTPRoute", "namespace": route["metadata"]["namespace"]}
-        return source in spec["from"] and any(to["group"] == "" and to["kind"] == "Service" and to.get("name", name) == name
-                                              for to in spec["to"])
-
-    def reference_fault(self, route, reference):
-        """The reason for which a reference isn't resolved, or None."""
-        own = route["metadata"]["namespace"]
-        namespace = reference.get("namespace", own)
-        if reference.get("group", "") != "" or reference.get("kind", "Service") != "Service":
-            return "InvalidKind"
-        if namespace != own:
-            grants = [grant for grant in self.all("ReferenceGrant") if grant["metadata"]["namespace"] == namespace]
-            permitting = [grant for grant in grants if self.permits(grant, route, reference["name"])]
-            show("a reference to another namespace with", min(len(grants), 1), "grants,", len(permitting), "of them permitting")
-            if not permitting:
-                return "RefNotPermitted"
-        service = self.of("Service", namespace, reference["name"])
-        if service is None:
-            return "BackendNotFound"
-        if service["spec"].get("type") == "ExternalName":
-            show("ExternalName")
-            return "InvalidKind"
-        for port in service["spec"].get("ports", []):
-            if port["port"] == reference["port"] and port.get("protocol", "TCP") == "TCP":
-                spoken = port.get("appProtocol")
-                show("appProtocol", spoken)
-                return "UnsupportedProtocol" if spoken in ["kubernetes.io/h2c", "kubernetes.io/wss", "https"] else None
-        show("a Service without the port")
-        return "BackendNotFound"
-
-    def resolved(self, route):
-        for rule in route["spec"].get("rules", []):
-            for reference in rule.get("backendRefs", []):
-                fault = self.reference_fault(route, reference)
-                if fault:
-                    return condition("ResolvedRefs", False, fault)
-        return condition("ResolvedRefs", True, "ResolvedRefs")
-
-    # The text.
-
-    def gateways(self):
-        for gateway in self.all("Gateway"):
-            if self.is_managed(gateway):
-                yield gateway, self.gateway_status(gateway)
-
-    def routes(self):
-        for route in self.all("HTTPRoute"):
-            parents = []
-            for parent, gateway in self.entries(route):
-                reason, listeners = self.entry(gateway, route, parent)
-                show("attached to listeners:", len(listeners))
-                parents.append({"parentRef": parent, "controllerName": CONTROLLER,
-                                "conditions": [condition("Accepted", reason == "Accepted", reason), self.resolved(route)]})
-            if parents:
-                yield route, {"parents": parents}
-            else:
-                show("route", key(route)[5:], "without an entry")
-
-
-def key(thing):
-    """The key of an object, as it is written."""
-    metadata = thing["metadata"]
-    return (metadata["namespace"] + "/" if "namespace" in metadata else "") + metadata["name"]
+# What its text shows.
 
 
 def reasons(conditions):
@@ -751,21 +383,25 @@ def text(worlds):
     number, refused, changes, skipped = 1, [], 0, 0
     classes, gateways, routes = [], [], []
     for events in worlds:
-        world = World(events, number)
-        number += len(events)
+        world = World(CONTROLLER, WORDS[2:])
+        for event in events:
+            world.take(number, event)
+            number += 1
         refused += world.refused
         changes += world.changes
         skipped += world.skipped
         classes += world.classes()
         gateways += world.gateways()
         routes += world.routes()
+        for route in world.all("HTTPRoute"):
+            if not list(world.entries(route)):
+                show("route", key(route)[5:], "without an entry")
     for line in refused:
         print(compact(line))
     for statuses in [classes, gateways, routes]:
-        for thing, status in sorted(statuses, key=lambda row: key(row[0])):
+        for thing, status in in_order(statuses):
             show_status(thing, status)
-            named = {name: value for name, value in thing["metadata"].items() if name in ["name", "namespace"]}
-            print(compact({"kind": thing["kind"], **named, "status": status}))
+            print(status_line(thing, status))
     print(compact({"changes": changes, "refused": len(refused), "skipped": skipped}))
     assert refused and skipped, "lines that are no change occur"
     missing = [wanted for wanted in WANTED if wanted not in shown]

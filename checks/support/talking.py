@@ -1,6 +1,7 @@
 """Clients and backends as bytes on sockets, for the scripts that are hostile to `serve`, and a client that behaves, whose requests are timed.
 
-usage: talking.py PORT HOST      the client that behaves, in a process of its own: asks until its input ends, and prints its Load as JSON
+usage: python3 -m support.talking PORT HOST      the client that behaves, in a process of its own: asks until its input ends, and prints
+                                                 its Load as JSON
 """
 import contextlib
 import dataclasses
@@ -13,8 +14,8 @@ import sys
 import threading
 import time
 
-from serving import Load
-
+# Where the package stands that this module is of.
+FOLDER = os.path.dirname(os.path.dirname(os.path.abspath(__file__)))
 LOOPBACK = "127.0.0.1"
 # A call that waits longer than each time-out of `serve` has failed.
 PATIENCE = 45
@@ -52,10 +53,10 @@ class Talk:
     def send(self, data):
         self.connection.sendall(data)
 
-    def more(self):
+    def more(self, most=262144):
         """Waits for more bytes."""
         try:
-            part = self.connection.recv(262144)
+            part = self.connection.recv(most)
         except ConnectionError:
             raise Ended("reset", self.held)
         if not part:
@@ -68,6 +69,12 @@ class Talk:
             self.more()
         taken, self.held = self.held[:count], self.held[count:]
         return taken
+
+    def some(self, most):
+        """The next bytes, at least one and at most so many."""
+        if not self.held:
+            self.more(most)
+        return self.take(min(len(self.held), most))
 
     def message(self, bodiless=False):
         """The next message: its body has a length that is announced, as all have that `serve` writes."""
@@ -129,11 +136,13 @@ def get(host, path="/", fields="", close=False):
 
 
 @contextlib.contextmanager
-def backend(answer):
-    """A backend's port, until the end. Each of its connections has a thread, which is given the Talk and answers as it likes."""
+def backend(answer, room=None):
+    """A backend's port, until the end. Each of its connections has a thread, which is given the Talk and answers as it likes; `room` is as in
+    `talk`."""
     def serve(connection):
         with connection, contextlib.suppress(OSError, Ended):
             connection.settimeout(PATIENCE)
+            connection.setsockopt(socket.IPPROTO_TCP, socket.TCP_NODELAY, 1)
             answer(Talk(connection))
 
     def accept():
@@ -142,6 +151,10 @@ def backend(answer):
                 threading.Thread(target=serve, args=(listener.accept()[0],), daemon=True).start()
 
     with socket.socket() as listener:
+        if room:
+            listener.setsockopt(socket.SOL_SOCKET, socket.SO_RCVBUF, room)
+            # Else the sender's system keeps much more.
+            listener.setsockopt(socket.IPPROTO_TCP, socket.TCP_MAXSEG, 536)
         listener.bind((LOOPBACK, 0))
         listener.listen(1024)
         threading.Thread(target=accept, daemon=True).start()
@@ -154,6 +167,22 @@ def backend(answer):
 
 
 # The client that behaves.
+
+@dataclasses.dataclass
+class Load:
+    """What a run of wrk came to. Times are in microseconds."""
+    requests: int
+    duration: int
+    half: int
+    most: int
+    longest: int
+    late: int
+    refused: int
+    broken: int
+
+    def rate(self):
+        return self.requests * 1e6 / self.duration
+
 
 def behave(port, host, over):
     """Asks again and again on a connection that is opened anew where it ended: the seconds that each reply took, how many weren't 200, and how
@@ -185,10 +214,10 @@ class Beside:
     """A client that behaves, while something else goes on: in a process of its own, so that it doesn't wait for this one."""
 
     def __init__(self, port, host):
-        self.words = [sys.executable, os.path.abspath(__file__), str(port), host]
+        self.words = [sys.executable, "-m", "support.talking", str(port), host]
 
     def __enter__(self):
-        self.process = subprocess.Popen(self.words, stdin=subprocess.PIPE, stdout=subprocess.PIPE, text=True)
+        self.process = subprocess.Popen(self.words, stdin=subprocess.PIPE, stdout=subprocess.PIPE, text=True, cwd=FOLDER)
         self.process.stdout.readline()
         return self
 

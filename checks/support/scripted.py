@@ -9,12 +9,13 @@ import sys
 import threading
 from dataclasses import dataclass, field
 
-from inputs import DOOR, PROGRAM, TOP, environment
-from talking import LOOPBACK, Ended, Talk, talk
+from .inputs import DOOR
+from .program import PROGRAM, TOP, environment
+from .talking import LOOPBACK, Ended, Talk, talk
 
 sys.dont_write_bytecode = True
 sys.path.append(os.path.join(TOP, "cases"))
-from messages import EVENTS, pieces_of, rows, steps, text_of  # noqa: E402, F401
+from messages import EVENTS, PHRASES, pieces_of, rows, steps, text_of  # noqa: E402, F401
 
 # The most bytes of one `send`, and of all connections of one script: the input of `replay` has limits, and a byte takes up to six there.
 MOST_SENT, MOST_SCRIPTED = 65_536, 4_000_000

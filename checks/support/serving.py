@@ -1,67 +1,30 @@
-"""Runs `gateward serve`, what stands before and behind it, and `wrk`, for the scripts that measure and try it."""
+"""Runs `gateward serve`, and what stands before and behind it."""
 import contextlib
 import json
 import os
-import shutil
+import random
 import socket
 import subprocess
 import sys
-import tempfile
 import time
 import urllib.error
 import urllib.request
 from dataclasses import dataclass
 
-from inputs import PROGRAM, environment, gateway_object, head, line, service
+from .inputs import gateway_object, head, line, service
+from .program import PROGRAM, environment
 
-BENCH = os.path.dirname(os.path.abspath(__file__))
-
-# Debian's servers stand there, which isn't on each path.
-os.environ["PATH"] += ":/usr/sbin"
-
-# What wrk prints at its end: requests, microseconds that it took, microseconds within which half of the requests were answered, 99 of 100, and all,
-# and the requests that were answered late, otherwise than 2xx or 3xx, or not at all.
-SUMMARY = """done = function(summary, latency, requests)
-  local errors = summary.errors
-  print(string.format("summary %d %d %d %d %d %d %d %d", summary.requests, summary.duration, latency:percentile(50), latency:percentile(99),
-    latency.max, errors.timeout, errors.status, errors.connect + errors.read + errors.write))
-end
-"""
-
-
-@dataclass
-class Load:
-    """What a run of wrk came to. Times are in microseconds."""
-    requests: int
-    duration: int
-    half: int
-    most: int
-    longest: int
-    late: int
-    refused: int
-    broken: int
-
-    def rate(self):
-        return self.requests * 1e6 / self.duration
-
-
-def need(*programs):
-    missing = [name for name in programs if not shutil.which(name)]
-    if missing:
-        sys.exit("wants %s on the path" % " and ".join(missing))
+# Below the ports that the system gives to connections, so that none of these takes a port that is to be bound.
+PORTS = range(12_000, 32_000)
 
 
 def free_port():
-    with socket.socket() as at:
-        at.bind(("127.0.0.1", 0))
-        return at.getsockname()[1]
-
-
-def compiled(name, folder):
-    """The program of a C file of this folder."""
-    program = os.path.join(folder, name)
-    subprocess.run(["cc", "-O2", "-pthread", "-o", program, os.path.join(BENCH, name + ".c")], check=True)
-    return program
+    """A port of 127.0.0.1 at which nobody listens."""
+    for port in random.sample(PORTS, 1000):
+        with socket.socket() as at, contextlib.suppress(OSError):
+            at.bind(("127.0.0.1", port))
+            return port
+    sys.exit("there is no free port")
 
 
 def await_port(port, process):
@@ -93,7 +56,12 @@ class Gateward:
     """A running `serve`."""
     process: subprocess.Popen
     admin: int
-    port: int
+    ports: list
+
+    @property
+    def port(self):
+        """That of its first door."""
+        return self.ports[0]
 
     def call(self, path, body=None):
         """A reply of the admin endpoint: its code and its lines as JSON."""
@@ -124,31 +92,37 @@ class Gateward:
         return len(os.listdir("/proc/%d/fd" % self.process.pid))
 
 
-@contextlib.contextmanager
-def gateward(workers, descriptors=1024, options=()):
-    """`serve` with one door, port 80 of the Gateway `default/g`, until the end. It has no objects yet, and may have so many descriptors."""
-    admin, port = free_port(), free_port()
-    command = [PROGRAM, "serve", *options, "--workers", str(workers), "--admin", "127.0.0.1:%d" % admin, "default/g:80=127.0.0.1:%d" % port]
-    process = subprocess.Popen(["prlimit", "--nofile=%d" % descriptors] + command, stdin=subprocess.DEVNULL, stdout=subprocess.PIPE,
-                               env=environment(command))
-    try:
+def words_of_serve(admin, doors, workers=1, options=()):
+    return [PROGRAM, "serve", *options, "--workers", str(workers), "--admin", "127.0.0.1:%d" % admin, *doors]
+
+
+def begun(workers, descriptors, options, gates):
+    """A `serve` that is ready, for these ports of Gateways, at ports that nobody else took meanwhile."""
+    for _ in range(5):
+        admin, *ports = [free_port() for _ in range(len(gates) + 1)]
+        doors = ["%s=127.0.0.1:%d" % door for door in zip(gates, ports)]
+        command = words_of_serve(admin, doors, workers, options)
+        process = subprocess.Popen(["prlimit", "--nofile=%d" % descriptors] + command, stdin=subprocess.DEVNULL, stdout=subprocess.PIPE,
+                                   env=environment(command))
         said = process.stdout.readline()
-        if said != b'{"ready":true}\n':
-            sys.exit("serve says %s" % said)
-        yield Gateward(process, admin, port)
+        if said == b'{"ready":true}\n':
+            return Gateward(process, admin, ports)
+        process.kill()
+        process.communicate()
+        if said != b'{"fault":"bind"}\n':
+            break
+    sys.exit("serve says %s" % said)
+
+
+@contextlib.contextmanager
+def gateward(workers=1, descriptors=1024, options=(), doors=("default/g:80",)):
+    """A ready `serve` with a door for each of these ports of Gateways, until the end. It has no objects yet, and may have so many descriptors."""
+    serving = begun(workers, descriptors, options, doors)
+    try:
+        yield serving
     finally:
-        process.terminate()
-        process.wait()
-
-
-def wrk(port, host, connections, seconds):
-    """A run of wrk with one thread and so many connections, which are kept open."""
-    with tempfile.NamedTemporaryFile("w", suffix=".lua") as script:
-        script.write(SUMMARY)
-        script.flush()
-        done = subprocess.run(["wrk", "-t", "1", "-c", str(connections), "-d", "%ds" % seconds, "-s", script.name, "-H", "Host: " + host,
-                               "http://127.0.0.1:%d/cart" % port], stdout=subprocess.PIPE, text=True, check=True)
-    return Load(*[int(word) for text in done.stdout.splitlines() if text.startswith("summary ") for word in text.split()[1:]])
+        serving.process.terminate()
+        serving.process.communicate()
 
 
 def host_of(number):

@@ -1,16 +1,7 @@
-"""Inputs of the program, of objects as an API server writes them, and what a run over one of them takes."""
+"""Inputs of the program, of objects as an API server writes them."""
 import json
-import os
 import random
-import subprocess
-import sys
-import tempfile
-import time
 
-from measuring import TOP
-
-# GATEWARD names another program than the built one.
-PROGRAM = os.environ.get("GATEWARD") or os.path.join(TOP, "crates", "gateward", "out", "gateward")
 DOOR = "default/g:80=127.0.0.1:18080"
 API = "gateway.networking.k8s.io/v1"
 
@@ -103,43 +94,3 @@ def lines_of_64_mib():
         text.append(next_line)
         left -= len(next_line)
         n += 1
-
-
-def build():
-    """Has the program built, where it isn't and no other one is named."""
-    if "GATEWARD" in os.environ:
-        return
-    built = subprocess.run([os.path.join(TOP, "bin", "gateward"), "status"], stdin=subprocess.DEVNULL, stdout=subprocess.DEVNULL)
-    if built.returncode != 0:
-        sys.exit("gateward does not run")
-
-
-def environment(command):
-    """The environment of a command: for the program, with what bin/gateward sets for its memory."""
-    if command[0] != PROGRAM:
-        return None
-    name = "serving=" if command[1] == "serve" else "memory="
-    with open(os.path.join(TOP, "bin", "gateward")) as file:
-        memory = [text.rstrip()[len(name):] for text in file if text.startswith(name)]
-    return {**os.environ, "GLIBC_TUNABLES": memory[0]}
-
-
-def run(command, path):
-    """Seconds, and peak memory in bytes, of one run. `time` starts it, so that its memory isn't this script's."""
-    with open(path, "rb") as source, open(os.devnull, "wb") as sink:
-        begin = time.perf_counter()
-        process = subprocess.run(["/usr/bin/time", "-f", "%M"] + command, stdin=source, stdout=sink, stderr=subprocess.PIPE,
-                                 env=environment(command))
-        seconds = time.perf_counter() - begin
-    if process.returncode != 0:
-        sys.exit("%s ended with %d: %s" % (command[0], process.returncode, process.stderr.decode()))
-    return seconds, int(process.stderr.split()[-1]) * 1024
-
-
-def runs(commands, text, count):
-    """So many runs of each command over the text: of each its fastest time in seconds, and its peak memory in bytes."""
-    with tempfile.NamedTemporaryFile("w", delete=False) as file:
-        file.write(text)
-    measured = [[run(command, file.name) for _ in range(count)] for command in commands]
-    os.unlink(file.name)
-    return [(min(seconds for seconds, _ in of), max(memory for _, memory in of)) for of in measured]

@@ -6,14 +6,13 @@ import json
 import random
 import statistics
 import string
-import tempfile
 import time
 from dataclasses import dataclass, field
 
-from inputs import gateway_object, line
-from scripted import Socketed, course_of_serve, courses_of_replay, objects_of, pieces_of, steps, table_rows
-from serving import Gateward, backend_lines, compiled, free_port, gateward, host_of, route_line, running
-from talking import Ended, backend, get, talk
+from .inputs import gateway_object, line
+from .scripted import Socketed, course_of_serve, courses_of_replay, objects_of, pieces_of, steps, table_rows
+from .serving import Gateward, backend_lines, free_port, gateward, host_of, route_line
+from .talking import Ended, backend, get, talk
 
 WORKERS = 2
 MIB = 1024 * 1024
@@ -27,8 +26,9 @@ NAME_LETTERS = string.ascii_letters + string.digits + "-._~!$'()*,;:@/"
 # What is to come at once has so many seconds.
 SOON = 10
 
-# Each write waits for 30 seconds, of which the first ones may have had a part taken by the system, and then a client that reads nothing is given up.
-UNREAD = (28, 100)
+# Each write waits for 30 seconds, and for up to five more where it is polled. The first ones may have had a part taken by the system, and then a client
+# that reads nothing is given up.
+UNREAD = (28, 150)
 # How many times as long a head may take as one with a single field of the same length, and how many seconds.
 MOST_TIMES, MOST_SECONDS = 25, 0.25
 # How many seconds a body of 1 MiB in chunks of one byte may take.
@@ -471,8 +471,8 @@ def many_matches(service_name):
         "rules": [{"matches": matches, "backendRefs": [{"name": service_name, "port": 80}]}]}))
 
 
-def answers(stack):
-    """The ports of the backends, by the names of their Services."""
+def answers(stack, small):
+    """The ports of the backends, by the names of their Services; `small` is that of one which is there."""
     large = b"HTTP/1.1 200 OK\r\ncontent-length: %d\r\n\r\n" % LARGE + LARGE * b"x"
 
     def slowly(client):
@@ -490,18 +490,16 @@ def answers(stack):
 
     ports = {name: stack.enter_context(backend(answer)) for name, answer in (
         ("large", largely), ("slow", slowly), ("resetting", resetting), ("rejecting", lambda client: client.reset()), ("whole", wholly))}
-    folder, port = stack.enter_context(tempfile.TemporaryDirectory()), free_port()
-    stack.enter_context(running([compiled("serve_upstream", folder), str(port)], port))
-    return ports | {"small": port, "none": free_port()}
+    return ports | {"small": small, "none": free_port()}
 
 
 @contextlib.contextmanager
-def place_of(is_polled, is_short):
-    """A place with all backends and their Routes, and one Route for all other hosts, as in `replay`."""
+def place_of(is_polled, is_short, small):
+    """A place with all backends and their Routes, of which that of the port `small` is there, and one Route for all other hosts, as in `replay`."""
     with contextlib.ExitStack() as stack:
         socketed = Socketed()
         socketed.port = stack.enter_context(backend(socketed.answer))
         serving = stack.enter_context(gateward(WORKERS, descriptors=4096, options=["--polled"] * is_polled))
-        serving.change(objects_of(socketed.port) + "".join(backend_lines(*one) for one in answers(stack).items()))
+        serving.change(objects_of(socketed.port) + "".join(backend_lines(*one) for one in answers(stack, small).items()))
         serving.change("".join(route_line(*one) for one in enumerate(BACKENDS)) + many_matches("small"))
         yield Place(serving, socketed, is_polled, is_short)

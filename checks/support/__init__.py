@@ -1,0 +1,1 @@
+"""What `checks` and `bench` share: the built program, its inputs, clients and backends on sockets."""
