@@ -1,4 +1,5 @@
-ghost use Rattle.std.specs.Prelude.{◌≡◌, ◌*◌, ◌^◌, ◌<◌, ◌≤◌, ◌⊎◌, [], List, ℕ, map, length, sum, replicate, option_copied, true, IfOk, OnOk, OnErr};
+ghost use Rattle.std.specs.Prelude.{◌≡◌, ◌*◌, ◌^◌, ◌<◌, ◌≤◌, ◌⊎◌, [], List, ℕ, map, length, sum, replicate, slice_get, option_copied, option_map, Some, true, IfOk, IfSome, OnOk, OnErr};
+ghost use Rattle.gw_answers.specs.declared.books.Drawn.{Drawn};
 ghost use Rattle.gw_text.specs.model.Picks.{after_draw, drawn_from};
 ghost use Rattle.gw_answers.specs.model.Decisions.{backend_choice, endpoint_choice, item_at, picked_backend, picked_endpoint};
 
@@ -17,6 +18,13 @@ pub struct Books {
     pub endpoints: EqualBook,
 }
 
+/// A backendRef that was drawn, and its place in the rule.
+#[derive(Clone, Copy)]
+pub(crate) struct Drawn<'r> {
+    pub place: usize,
+    pub backend: &'r Backend,
+}
+
 impl Books {
     /// Nothing was picked.
     pub fn new(alloc: Global) -> Self
@@ -33,8 +41,9 @@ impl Books {
         &mut self,
         alloc: Global,
         row: &'r Row,
-    ) -> Result<Option<&'r Backend>, NoMemory>
-        ensures pick { IfOk result (λ b. option_copied b ≡ picked_backend row.now self.old) }
+    ) -> Result<Option<Drawn<'r>>, NoMemory>
+        ensures pick { IfOk result (λ drawn. option_map (λ (d : Drawn). d.backend.now) drawn ≡ picked_backend row.now self.old) }
+        ensures place { IfOk result (λ drawn. IfSome drawn (λ d. slice_get row.now.plan.backends d.place ≡ Some d.backend.now)) }
         ensures after { OnOk result (self.new ≡ record self.old { backends = after_draw (backend_choice row.now) self.old.backends }) }
         ensures err { OnErr result ((self.new ≡ self.old) ⊎ (self.new ≡ record self.old { backends = [] })) }
     {
@@ -46,7 +55,7 @@ impl Books {
             u64::from(row.rule),
             weights.as_slice(),
         )?;
-        Ok(item_at(backends, picked))
+        Ok(drawn_at(backends, picked))
     }
 
     /// Picks the endpoint that is next.
@@ -98,6 +107,15 @@ fn is_counted(weights: &[u32]) -> bool
 {
     let total = sum_of(weights);
     weights.len() <= MOST_WEIGHTS && total < 1 << 64
+}
+
+fn drawn_at(backends: &[Backend], place: Option<usize>) -> Option<Drawn<'_>>
+    ensures backend { option_map (λ (d : Drawn). d.backend.now) result ≡ item_at backends.now place }
+    ensures place { IfSome result (λ d. slice_get backends.now d.place ≡ Some d.backend.now) }
+{
+    let place = place?;
+    let backend = backends.get(place)?;
+    Some(Drawn { place, backend })
 }
 
 fn item_at<T: Drop>(items: &[T], place: Option<usize>) -> Option<&T>

@@ -1,12 +1,13 @@
-ghost use Rattle.std.specs.Prelude.{◌≡◌, Some, None, IfOk, OnOk, OnErr, IsTrue, option_map, option_copied};
+ghost use Rattle.std.specs.Prelude.{◌≡◌, Some, None, IfOk, OnOk, OnErr, IsTrue, option_map, option_copied, slice_get};
 ghost use Rattle.gw_match.specs.model.Choice.{listener_at};
 ghost use Rattle.gw_text.specs.model.Matches.{path_fits};
 ghost use Rattle.gw_decide.specs.model.Verdicts.{choose};
 ghost use Rattle.gw_answers.specs.Left.{AreLeft};
 ghost use Rattle.gw_answers.specs.model.Decisions as rules;
 
-use crate::books::Books;
+use crate::books::{Books, Drawn};
 use crate::chosen::{BackendKey, Chosen};
+use crate::edits::ResponseEdits;
 use crate::forward::write_forwarded;
 use crate::redirect::redirect;
 use gw_decide::{Verdict, decide};
@@ -14,11 +15,10 @@ use gw_frames::Request;
 use gw_match::DoorTable;
 use gw_replies::FaultName;
 use gw_route::BackendState;
-use gw_rows::{Backend, Plan, Row};
+use gw_rows::Row;
 use gw_text::{NoMemory, Socket, Sockets, Text};
 use std::alloc::Global;
 use std::marker::Model;
-use std::sync::Arc;
 
 /// A reply of this program's own.
 #[derive(Drop)]
@@ -34,8 +34,8 @@ pub struct Reply {
 pub struct Forward {
     pub to: Socket,
     pub bytes: Text,
-    /// The rule by which the response comes back.
-    pub plan: Arc<Plan>,
+    /// What is done to the response.
+    pub edits: ResponseEdits,
 }
 
 /// What is done about a request.
@@ -142,9 +142,9 @@ fn by_pick(
     ensures err { OnErr result (AreLeft books.old (rules.after_verdict books.old (choose row.now)) books.new) }
 {
     match books.pick_backend(alloc, row)? {
-        Some(backend) => {
-            let chosen = chosen.with_backend(BackendKey::of(alloc, backend)?);
-            by_state(alloc, chosen, row, backend, request, books)
+        Some(drawn) => {
+            let chosen = chosen.with_backend(BackendKey::of(alloc, drawn.backend)?);
+            by_state(alloc, chosen, row, drawn, request, books)
         }
         None => Ok(replied(chosen, 500, Some(FaultName::NoBackend))),
     }
@@ -155,15 +155,17 @@ fn by_state(
     alloc: Global,
     chosen: Chosen,
     row: &Row,
-    backend: &Backend,
+    drawn: Drawn<'_>,
     request: &Request,
     books: &mut Books,
 ) -> Result<Decision, NoMemory>
-    requires { IsTrue (path_fits row.now.test.path request.now.path) }
-    ensures value { IfOk result (λ d. d ≡ rules.by_state chosen row.now request.now books.old backend.now backend.now.state) }
-    ensures after { OnOk result (books.new ≡ rules.after_endpoint books.old backend.now backend.now.state) }
-    ensures err { OnErr result (AreLeft books.old (rules.after_endpoint books.old backend.now backend.now.state) books.new) }
+    requires fits { IsTrue (path_fits row.now.test.path request.now.path) }
+    requires place { slice_get row.now.plan.backends drawn.place ≡ Some drawn.backend.now }
+    ensures value { IfOk result (λ d. d ≡ rules.by_state chosen row.now request.now books.old drawn.backend.now drawn.backend.now.state) }
+    ensures after { OnOk result (books.new ≡ rules.after_endpoint books.old drawn.backend.now drawn.backend.now.state) }
+    ensures err { OnErr result (AreLeft books.old (rules.after_endpoint books.old drawn.backend.now drawn.backend.now.state) books.new) }
 {
+    let backend = drawn.backend;
     let (code, fault) = match &backend.state {
         BackendState::InvalidKind => (500, FaultName::InvalidKind),
         BackendState::NotPermitted => (500, FaultName::RefNotPermitted),
@@ -172,30 +174,32 @@ fn by_state(
         BackendState::NoEndpoints => (503, FaultName::NoEndpoints),
         BackendState::Ready(sockets) => {
             let picked = books.pick_endpoint(backend, sockets.as_slice())?;
-            return by_endpoint(alloc, chosen, row, picked, request);
+            return by_endpoint(alloc, chosen, row, drawn, picked, request);
         }
     };
     Ok(replied(chosen, code, Some(fault)))
 }
 
-// The request is sent to the endpoint.
+// The request is sent to the endpoint of the backend.
 fn by_endpoint(
     alloc: Global,
     chosen: Chosen,
     row: &Row,
+    drawn: Drawn<'_>,
     picked: Option<Socket>,
     request: &Request,
 ) -> Result<Decision, NoMemory>
-    requires { IsTrue (path_fits row.now.test.path request.now.path) }
-    ensures { IfOk result (λ d. d ≡ rules.by_endpoint chosen row.now request.now picked) }
+    requires fits { IsTrue (path_fits row.now.test.path request.now.path) }
+    requires place { slice_get row.now.plan.backends drawn.place ≡ Some drawn.backend.now }
+    ensures { IfOk result (λ d. d ≡ rules.by_endpoint chosen row.now request.now drawn.backend.now picked) }
 {
     let Some(to) = picked else {
         return Ok(replied(chosen, 503, Some(FaultName::NoEndpoints)));
     };
-    let bytes = write_forwarded(alloc, &row.plan, &row.test.path, request)?;
-    let plan = row.plan.clone()?;
+    let bytes = write_forwarded(alloc, &row.plan, drawn.backend, &row.test.path, request)?;
+    let edits = ResponseEdits::of(&row.plan, &drawn)?;
     Ok(Decision {
         chosen: chosen.with_endpoint(to),
-        action: Action::Forward(Forward { to, bytes, plan }),
+        action: Action::Forward(Forward { to, bytes, edits }),
     })
 }

@@ -4,6 +4,7 @@
 mod books;
 mod chosen;
 mod decision;
+mod edits;
 mod forward;
 mod redirect;
 mod reply;
@@ -12,5 +13,6 @@ mod row;
 pub use books::Books;
 pub use chosen::{BackendKey, Chosen};
 pub use decision::{Action, Decision, Forward, Reply};
+pub use edits::ResponseEdits;
 pub use reply::{fault_of, is_head, status_of, write_answer};
 pub use row::ServedRow;

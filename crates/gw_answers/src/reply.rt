@@ -1,18 +1,15 @@
-ghost use Rattle.std.specs.Prelude.{◌≡◌, IfOk};
-ghost use Rattle.gw_filters.specs.model.Editing.{edited};
+ghost use Rattle.std.specs.Prelude.{◌≡◌, ◌++◌, IfOk, option_copied, option_to_list};
 ghost use Rattle.gw_replies.specs.model.Hops.{passed_back};
 ghost use Rattle.gw_replies.specs.model.Written.{reply};
 ghost use Rattle.gw_answers.specs.model.Messages as rules;
 ghost use Rattle.gw_answers.specs.model.ServedRows as rows;
 
-use crate::forward::response_edits_in;
-use gw_filters::edit;
+use crate::edits::{ResponseEdits, edit_by};
 use gw_frames::Request;
 use gw_replies::{
     BackendFault, FaultName, Response, passed_back, write_own, write_reply, write_unedited_reply,
 };
 use gw_route::Edits;
-use gw_rows::Plan;
 use gw_text::{NoMemory, Text};
 use std::alloc::Global;
 
@@ -31,18 +28,15 @@ pub fn is_head(request: &Request) -> bool
 #[tactic(auto, unfolding(crate::specs::model::Messages::reply_of))]
 pub fn write_answer(
     alloc: Global,
-    plan: &Plan,
+    edits: &ResponseEdits,
     answer: Result<Response, BackendFault>,
     head: bool,
     close: bool,
 ) -> Result<Text, NoMemory>
-    ensures { IfOk result (λ text. text ≡ rules.reply_of plan.now answer head close) }
+    ensures { IfOk result (λ text. text ≡ rules.reply_of edits.now answer head close) }
 {
     match answer {
-        Ok(response) => match response_edits_in(plan) {
-            Some(edits) => write_edited(alloc, edits, response, head, close),
-            None => write_unedited_reply(alloc, &response, head, close),
-        },
+        Ok(response) => write_response(alloc, edits.both(), response, head, close),
         Err(fault) => write_own(
             alloc,
             BAD_GATEWAY,
@@ -54,18 +48,21 @@ pub fn write_answer(
 }
 
 // The bytes of the response, with the fields that are passed back after the edits.
-fn write_edited(
+fn write_response(
     alloc: Global,
-    edits: &Edits,
+    both: (Option<&Edits>, Option<&Edits>),
     response: Response,
     head: bool,
     close: bool,
 ) -> Result<Text, NoMemory>
-    ensures { IfOk result (λ text. text ≡ reply (record response { fields = edited edits.now (passed_back response.fields) }) head close) }
+    ensures { IfOk result (λ text. text ≡ reply
+        (rules.edited_response (option_to_list (option_copied both.0) ++ option_to_list (option_copied both.1)) response) head close) }
 {
-    let passed = passed_back(alloc, &response.fields)?;
+    if both.0.is_none() && both.1.is_none() {
+        return write_unedited_reply(alloc, &response, head, close);
+    }
     let mut response = response;
-    response.fields = edit(alloc, &passed, edits)?;
+    response.fields = edit_by(alloc, passed_back(alloc, &response.fields)?, both)?;
     write_reply(alloc, &response, head, close)
 }
 

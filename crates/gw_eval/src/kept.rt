@@ -37,7 +37,6 @@ impl Model for AttachedAt {
 }
 
 /// All that is kept of a Route.
-#[derive(Drop)]
 pub struct KeptRoute {
     pub route: Stored<HttpRoute>,
     pub status: Shared<RouteStatus>,
@@ -53,6 +52,18 @@ impl Model for KeptRoute {
     ghost Value = { Plain };
 
     ghost view = { λ k. record { route = k.route; status = k.status; attached = k.attached; plans = k.plans } };
+}
+
+// Written out, so that crates above don't prove anew how its parts are dropped.
+impl Drop for KeptRoute {
+    fn drop(self) {
+        let KeptRoute {
+            route: _,
+            status: _,
+            attached: _,
+            plans: _,
+        } = self;
+    }
 }
 
 fn attached_at(alloc: Global, entry: &Entry<'_>) -> Result<AttachedAt, NoMemory>

@@ -1,14 +1,32 @@
 //! What the rules of Routes do.
-ghost use Rattle.std.specs.Prelude.{◌≡◌, IfOk, map};
+ghost use Rattle.std.specs.Prelude.{◌≡◌, IfOk, map, option_copied, unwrap_or};
+ghost use Rattle.gw_text.specs.model.Filters.{no_edits};
 ghost use Rattle.gw_text.specs.model.Plans as rules;
 
 use crate::references::state;
 use crate::shared_plans::Plans;
-use gw_route::{BackendRef, HttpRoute, Rule, copy_filters};
+use gw_route::{
+    BackendRef, Edits, HttpRoute, Rule, copy_edits, copy_filters, request_edits_in,
+    response_edits_in,
+};
 use gw_rows::{Backend, Backends, Plan};
 use gw_store::World;
-use gw_text::{NoMemory, Text};
+use gw_text::{Fields, Names, NoMemory, Text};
 use std::alloc::Global;
+
+// The same edits, or none.
+fn edits(alloc: Global, given: Option<&Edits>) -> Result<Edits, NoMemory>
+    ensures { IfOk result (λ edits. edits ≡ unwrap_or (option_copied given) no_edits) }
+{
+    match given {
+        Some(edits) => copy_edits(alloc, edits),
+        None => Ok(Edits {
+            set: Fields::new(alloc),
+            add: Fields::new(alloc),
+            remove: Names::new(alloc),
+        }),
+    }
+}
 
 fn backend(
     alloc: Global,
@@ -23,6 +41,8 @@ fn backend(
         key: to.key(alloc)?,
         port: to.port.unwrap_or(0),
         state: state(alloc, world, namespace, to)?,
+        request: edits(alloc, request_edits_in(to.filters.as_slice()))?,
+        response: edits(alloc, response_edits_in(to.filters.as_slice()))?,
     })
 }
 

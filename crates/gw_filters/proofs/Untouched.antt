@@ -3,10 +3,10 @@ use Rattle.std.proofs.Common.{◌≡◌, ◌∙◌, refl, sym, ap, Bool, true, f
 use Rattle.std.proofs.lemmas.List.Elements.{filter-append}
 use Rattle.std.specs.List.{list_any}
 use Rattle.gw_text.specs.model.Fields.{Field, same_field_name}
-use Rattle.gw_text.specs.model.Filters.{Edits}
+use Rattle.gw_text.specs.model.Filters.{Edits, no_edits}
 use Rattle.gw_messages.specs.model.Values.{has_field}
 use Rattle.gw_filters.specs.model.Editing.{added_to, edited, first_entries, is_apart_from, is_new_to, is_set_cookie, joined, set_behind, set_field, value_for, with_added, with_removed, with_set}
-use Rattle.gw_filters.specs.Laws.{edits_name, KeepsOthers, no_edits, removes}
+use Rattle.gw_filters.specs.Laws.{edits_name, KeepsOthers, removes}
 use Rattle.gw_filters.proofs.Names.{same_names}
 
 -- The fields whose names pass a test.

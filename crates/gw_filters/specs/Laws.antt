@@ -6,10 +6,6 @@ use Rattle.gw_text.specs.model.Filters.{Edits}
 use Rattle.gw_messages.specs.model.Values.{has_field, values_of}
 use Rattle.gw_filters.specs.model.Editing.{value_for}
 
--- Edits of nothing.
-abbrev pub no_edits : Edits
-no_edits = record { set = []; add = []; remove = [] }
-
 -- The edits remove this name.
 abbrev pub removes : Edits → List ℕ → Bool
 removes e name = list_any (same_field_name name) e.remove

@@ -1,8 +1,10 @@
-ghost use Rattle.std.specs.Prelude.{◌≡◌, [], ◌∷◌, ◌++◌, codes, filter, not, ◌&&◌, Some, IfOk, OnOk, option_copied};
+ghost use Rattle.std.specs.Prelude.{◌≡◌, [], ◌∷◌, ◌++◌, List, codes, filter, not, ◌&&◌, true, Some, IfOk, OnOk, option_copied};
 ghost use Rattle.std.specs.List.{list_any};
-ghost use Rattle.gw_text.specs.model.Fields.{same_field_name};
+ghost use Rattle.std.specs.Option.{option_map_or};
+ghost use Rattle.gw_text.specs.model.Fields.{Field, same_field_name};
+ghost use Rattle.gw_text.specs.model.Filters.{Edits, no_edits};
 ghost use Rattle.gw_messages.specs.model.Values.{has_field};
-ghost use Rattle.gw_filters.specs.Laws.{HasEachSet, HasNoRemoved, KeepsOthers, no_edits};
+ghost use Rattle.gw_filters.specs.Laws.{HasEachSet, HasNoRemoved, KeepsOthers};
 ghost use Rattle.gw_filters.specs.model.Editing.{added_to, edited, first_entries, is_apart_from, is_new_to, is_set_cookie, joined, set_behind, set_field, value_for, with_added, with_removed, with_set};
 
 use gw_messages::field::has_field;
@@ -22,6 +24,21 @@ pub fn edit(alloc: Global, fields: &Fields, by: &Edits) -> Result<Fields, NoMemo
     let set = with_set(alloc, fields.as_slice(), by.set.as_slice())?;
     let added = with_added(alloc, set.as_slice(), by.add.as_slice())?;
     with_removed(alloc, added.as_slice(), by.remove.as_slice())
+}
+
+/// The edits, or none if they change nothing.
+pub fn effective(edits: &Edits) -> Option<&Edits>
+    ensures { (fields : List Field) → option_map_or (λ (e : Edits). edited e fields) (option_copied result) fields ≡ edited edits.now fields }
+{
+    if is_empty(edits) { None } else { Some(edits) }
+}
+
+fn is_empty(edits: &Edits) -> bool
+    ensures { result ≡ true → edits.now ≡ no_edits }
+{
+    edits.set.as_slice().is_empty()
+        && edits.add.as_slice().is_empty()
+        && edits.remove.as_slice().is_empty()
 }
 
 fn with_set(alloc: Global, fields: &[Field], entries: &[Field]) -> Result<Fields, NoMemory>

@@ -6,6 +6,6 @@ mod path;
 mod redirect;
 mod target;
 
-pub use edits::edit;
+pub use edits::{edit, effective};
 pub use redirect::location;
 pub use target::rewrite;

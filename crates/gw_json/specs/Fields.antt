@@ -61,12 +61,6 @@ abbrev pub nodes_from : List ℕ → ℕ → Items → List Node
 nodes_from path index no_items = []
 nodes_from path index (item d ds) = record { value = d; path = item_path path index } ∷ nodes_from path (index + 1) ds
 
--- How many items the list has.
-unfoldable pub item_count_of : Node → Result ℕ Refusal
-item_count_of at = do
-  items ← or (WrongType at.path) (as_array at.value)
-  Ok (items_len items)
-
 -- A list of at most so many items.
 unfoldable pub items_of : ℕ → Node → Result (List Node) Refusal
 items_of most at = do

@@ -7,7 +7,7 @@ ghost use Rattle.gw_json.specs.Words.{Gives, each};
 ghost use Rattle.gw_json.specs.Members.{node_of_member};
 ghost use Rattle.gw_json.specs.Paths.{item_path};
 ghost use Rattle.gw_json.specs.Presence.{list_of};
-ghost use Rattle.gw_json.specs.Fields.{Node, node_of, object_of, count_of, field_of, need_of, item_count_of, items_of, text_of, number_of, truth_of, members_of, named_node, nodes_from, named_from, IsInByteOrder};
+ghost use Rattle.gw_json.specs.Fields.{Node, node_of, object_of, count_of, field_of, need_of, items_of, text_of, number_of, truth_of, members_of, named_node, nodes_from, named_from, IsInByteOrder};
 
 use crate::form::Form;
 use crate::member::Member;
@@ -153,17 +153,6 @@ impl<'v> Cursor<'v> {
     {
         match self.value.as_bool() {
             Some(truth) => Ok(truth),
-            None => Err(self.wrong_type(alloc)?),
-        }
-    }
-
-    /// How many items the list has, which may be any number.
-    #[tactic(auto, using(crate::proofs::ValueLemmas::items_len_is), unfolding(crate::specs::Fields::item_count_of))]
-    pub fn item_count(&self, alloc: Global) -> Result<usize, Refusal>
-        ensures { Gives (λ n. n) result (item_count_of (node_of self.now)) }
-    {
-        match self.value.as_array() {
-            Some(items) => Ok(items.len()),
             None => Err(self.wrong_type(alloc)?),
         }
     }

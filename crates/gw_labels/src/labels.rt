@@ -7,7 +7,6 @@ use std::collections::BTreeMap;
 use std::marker::Model;
 
 /// The labels of an object: a map from texts to texts, in the byte order of its keys.
-#[derive(Drop)]
 pub struct Labels {
     alloc: Global,
     entries: BTreeMap<String, String>,
@@ -19,6 +18,16 @@ impl Model for Labels {
     ghost Value = { List (List ℕ × List ℕ) };
 
     ghost view = { λ l. map (λ e. (string_bytes e.0, string_bytes e.1)) l.entries.entries };
+}
+
+// Written out, so that crates above don't prove anew how its parts are dropped.
+impl Drop for Labels {
+    fn drop(self) {
+        let Labels {
+            alloc: _,
+            entries: _,
+        } = self;
+    }
 }
 
 impl Labels {

@@ -19,7 +19,6 @@ use std::sync::ledger::Ledger;
 
 /// The rows of a listener, Route by Route, and in cells in which the one that serves a request is found. What is changed shares with its
 /// copies all but what the change touches.
-#[derive(Drop)]
 pub struct ListenerTable {
     listener: Shared<ServedListener>,
     routes: SharedList<RouteRows>,
@@ -35,6 +34,17 @@ impl Model for ListenerTable {
     ghost view = { λ t. record { listener = t.listener; routes = t.routes } };
 
     ghost invariant = { λ t. AreRowsOf t.listener (rows_in t.routes) × AreCellsOf (rows_in t.routes) t.cells };
+}
+
+// Written out, so that crates above don't prove anew how its parts are dropped.
+impl Drop for ListenerTable {
+    fn drop(self) {
+        let ListenerTable {
+            listener: _,
+            routes: _,
+            cells: _,
+        } = self;
+    }
 }
 
 // A handle on each row of the Route of this place.

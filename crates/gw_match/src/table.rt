@@ -16,7 +16,6 @@ use std::marker::Model;
 use std::sync::ledger::Ledger;
 
 /// The rows of a door, in a form in which the one that serves a request is found.
-#[derive(Drop)]
 pub struct DoorTable {
     tables: Vec<Shared<ListenerTable>>,
 }
@@ -30,6 +29,13 @@ impl Model for DoorTable {
     ghost view = { λ t. rows_with t.tables.items };
 
     ghost invariant = { λ t. AreOfOneDoor t.tables.items };
+}
+
+// Written out, so that crates above don't prove anew how its parts are dropped.
+impl Drop for DoorTable {
+    fn drop(self) {
+        let DoorTable { tables: _ } = self;
+    }
 }
 
 // The table of these listeners and rows.

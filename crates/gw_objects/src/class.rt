@@ -10,7 +10,6 @@ use std::alloc::Global;
 use std::marker::Model;
 
 /// A GatewayClass.
-#[derive(Drop)]
 pub struct GatewayClass {
     pub meta: Meta,
     /// The controller that manages Gateways of this class.
@@ -24,6 +23,17 @@ impl Model for GatewayClass {
     ghost Value = { Plain };
 
     ghost view = { λ c. record { meta = c.meta; controller_name = c.controller_name; parameters_ref = c.parameters_ref } };
+}
+
+// Written out, so that crates above don't prove anew how its parts are dropped.
+impl Drop for GatewayClass {
+    fn drop(self) {
+        let GatewayClass {
+            meta: _,
+            controller_name: _,
+            parameters_ref: _,
+        } = self;
+    }
 }
 
 /// The GatewayClass of this metadata. `at` is the whole object.

@@ -66,7 +66,6 @@ impl Form for AddressForm {
 }
 
 /// A Gateway.
-#[derive(Drop)]
 pub struct Gateway {
     pub meta: Meta,
     /// The name of its GatewayClass.
@@ -82,6 +81,18 @@ impl Model for Gateway {
     ghost Value = { Plain };
 
     ghost view = { λ g. record { meta = g.meta; gateway_class_name = g.gateway_class_name; listeners = g.listeners.items; addresses = g.addresses.items } };
+}
+
+// Written out, so that crates above don't prove anew how its parts are dropped.
+impl Drop for Gateway {
+    fn drop(self) {
+        let Gateway {
+            meta: _,
+            gateway_class_name: _,
+            listeners: _,
+            addresses: _,
+        } = self;
+    }
 }
 
 #[tactic(auto, unfolding(crate::specs::Gateways::is_among))]

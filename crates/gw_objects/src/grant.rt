@@ -85,7 +85,6 @@ impl Form for GrantToForm {
 }
 
 /// A ReferenceGrant.
-#[derive(Drop)]
 pub struct ReferenceGrant {
     pub meta: Meta,
     pub from: Vec<GrantFrom>,
@@ -98,6 +97,17 @@ impl Model for ReferenceGrant {
     ghost Value = { Plain };
 
     ghost view = { λ g. record { meta = g.meta; from = g.from.items; to = g.to.items } };
+}
+
+// Written out, so that crates above don't prove anew how its parts are dropped.
+impl Drop for ReferenceGrant {
+    fn drop(self) {
+        let ReferenceGrant {
+            meta: _,
+            from: _,
+            to: _,
+        } = self;
+    }
 }
 
 /// The ReferenceGrant of this metadata. `at` is the whole object.

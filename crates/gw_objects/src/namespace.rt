@@ -12,7 +12,6 @@ use std::alloc::{AllocError, Global};
 use std::marker::Model;
 
 /// A Namespace.
-#[derive(Drop)]
 pub struct Namespace {
     pub meta: Meta,
     /// `kubernetes.io/metadata.name` is the namespace's own name.
@@ -25,6 +24,13 @@ impl Model for Namespace {
     ghost Value = { Plain };
 
     ghost view = { λ n. record { meta = n.meta; labels = n.labels } };
+}
+
+// Written out, so that crates above don't prove anew how its parts are dropped.
+impl Drop for Namespace {
+    fn drop(self) {
+        let Namespace { meta: _, labels: _ } = self;
+    }
 }
 
 fn put_own_name(alloc: Global, name: &Text, labels: &mut Labels) -> Result<(), AllocError>

@@ -55,7 +55,6 @@ impl Form for ServicePortForm {
 }
 
 /// A Service.
-#[derive(Drop)]
 pub struct Service {
     pub meta: Meta,
     /// Whether its type is ExternalName.
@@ -69,6 +68,17 @@ impl Model for Service {
     ghost Value = { Plain };
 
     ghost view = { λ s. record { meta = s.meta; external_name = s.external_name; ports = s.ports.items } };
+}
+
+// Written out, so that crates above don't prove anew how its parts are dropped.
+impl Drop for Service {
+    fn drop(self) {
+        let Service {
+            meta: _,
+            external_name: _,
+            ports: _,
+        } = self;
+    }
 }
 
 fn is_external_name(sort: &Option<Text>) -> bool

@@ -74,7 +74,6 @@ impl Model for Endpoint {
 }
 
 /// An EndpointSlice.
-#[derive(Drop)]
 pub struct EndpointSlice {
     pub meta: Meta,
     pub labels: Labels,
@@ -89,6 +88,19 @@ impl Model for EndpointSlice {
     ghost Value = { Plain };
 
     ghost view = { λ s. record { meta = s.meta; labels = s.labels; address_type = s.address_type; ports = s.ports.items; endpoints = s.endpoints.items } };
+}
+
+// Written out, so that crates above don't prove anew how its parts are dropped.
+impl Drop for EndpointSlice {
+    fn drop(self) {
+        let EndpointSlice {
+            meta: _,
+            labels: _,
+            address_type: _,
+            ports: _,
+            endpoints: _,
+        } = self;
+    }
 }
 
 #[tactic(auto, unfolding(crate::specs::Slices::first_ipv4_of))]

@@ -1,4 +1,4 @@
--- The filters of a rule, line by line. Source: HTTPRouteFilter of the Gateway API reference.
+-- The filters of a rule, or of a backendRef, line by line. Source: HTTPRouteFilter of the Gateway API reference.
 use Rattle.std.specs.Prelude.{ℕ, List, codes, bytes_eq, if◌then◌else◌, Result, Ok}
 use Rattle.gw_json.specs.declared.refusal.Refusal.{Refusal}
 use Rattle.gw_json.specs.Words.{◌>>=◌}

@@ -4,6 +4,7 @@ ghost use Rattle.gw_json.specs.Fields.{node_of};
 ghost use Rattle.gw_text.specs.model.Routes.{is_core_service, backend_key};
 ghost use Rattle.gw_route.specs.Backends as backends;
 
+use crate::filter::FilterForm;
 use crate::plain::BackendRef;
 use gw_forms as forms;
 use gw_json::{Cursor, Form, Number32, Port, Refusal};
@@ -45,23 +46,6 @@ fn backend_port(alloc: Global, of_service: bool, at: &Cursor<'_>) -> Result<Opti
     at.given(alloc, "port", Port)
 }
 
-/// Whether a list has items.
-#[derive(Clone, Copy)]
-pub struct HasItems;
-
-impl Form for HasItems {
-    type Value = bool;
-
-    ghost seen = { λ value. value };
-
-    ghost of = { λ _. backends.has_items_of };
-
-    #[tactic(auto, unfolding(crate::specs::Backends::has_items_of))]
-    fn read(&self, alloc: Global, at: &Cursor<'_>) -> Result<bool, Refusal> {
-        Ok(at.item_count(alloc)? > 0)
-    }
-}
-
 // A share of a rule's requests.
 const WEIGHT: Number32 = Number32 {
     least: 0,
@@ -89,7 +73,7 @@ impl<'o> Form for BackendIn<'o> {
         let namespace = at.defaulted(alloc, "namespace", forms::Namespace, self.own.copy(alloc)?)?;
         let port = backend_port(alloc, is_service(&group, &kind), at)?;
         let weight = at.defaulted(alloc, "weight", WEIGHT, 1)?;
-        let filters = at.defaulted(alloc, "filters", HasItems, false)?;
+        let filters = at.listed(alloc, "filters", 16, FilterForm)?;
         Ok(BackendRef {
             group,
             kind,

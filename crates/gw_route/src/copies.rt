@@ -1,4 +1,4 @@
-//! Filters and matches once more, for what outlives the Route from which they were read.
+//! Filters, edits and matches once more, for what outlives the Route from which they were read.
 ghost use Rattle.std.specs.Prelude.{◌≡◌, IfOk, map, option_map};
 ghost use Rattle.gw_route.specs.SeenFilter.{seen_filter};
 ghost use Rattle.gw_route.specs.SeenModifier.{seen_modifier};
@@ -39,7 +39,8 @@ fn copy_text(alloc: Global, text: &Option<Text>) -> Result<Option<Text>, NoMemor
     }
 }
 
-fn copy_edits(alloc: Global, edits: &Edits) -> Result<Edits, NoMemory>
+/// The same edits once more.
+pub fn copy_edits(alloc: Global, edits: &Edits) -> Result<Edits, NoMemory>
     ensures { IfOk result (λ copy. copy ≡ edits.now) }
 {
     Ok(Edits {

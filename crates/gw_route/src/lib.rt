@@ -4,6 +4,7 @@
 
 mod backend;
 mod copies;
+mod edits;
 mod field_names;
 mod filter;
 mod matching;
@@ -14,7 +15,8 @@ mod route;
 mod state;
 mod support;
 
-pub use copies::{copy_filters, copy_match};
+pub use copies::{copy_edits, copy_filters, copy_match};
+pub use edits::{request_edits_in, response_edits_in};
 pub use plain::{
     BackendRef, Edits, Filter, Filters, HeaderMatch, HttpRoute, Match, ParentRef, PathMatch,
     PathModifier, QueryParamMatch, Redirect, Rewrite, Rule,

@@ -71,7 +71,6 @@ impl Model for QueryParamMatch {
 }
 
 /// What is asked of a request, all of it.
-#[derive(Drop)]
 pub struct Match {
     pub path: PathMatch,
     pub headers: Vec<HeaderMatch>,
@@ -85,6 +84,18 @@ impl Model for Match {
     ghost Value = { Plain };
 
     ghost view = { λ m. record { path = m.path; headers = m.headers.items; query_params = m.query_params.items; method = m.method } };
+}
+
+// Written out, so that crates above don't prove anew how its parts are dropped.
+impl Drop for Match {
+    fn drop(self) {
+        let Match {
+            path: _,
+            headers: _,
+            query_params: _,
+            method: _,
+        } = self;
+    }
 }
 
 /// What is done to the fields of a message.
@@ -151,7 +162,7 @@ impl Model for Rewrite {
     ghost view = { λ w. record { hostname = w.hostname; path = option_map seen_modifier w.path } };
 }
 
-/// A filter of a rule.
+/// A filter of a rule, or of a backendRef.
 #[derive(Drop)]
 pub enum Filter {
     RequestHeaderModifier(Edits),
@@ -177,16 +188,18 @@ pub struct BackendRef {
     pub port: Option<u16>,
     /// Its share of the rule's requests, 0 to 1,000,000.
     pub weight: u32,
-    /// Whether it has filters of its own.
-    pub filters: bool,
+    /// What is done to the requests that it gets, and to their responses.
+    pub filters: Vec<Filter>,
 }
 
 impl Model for BackendRef {
+    ghost use Rattle.std.specs.Prelude.{map};
     ghost use Rattle.gw_text.specs.model.Routes.{BackendRef as Plain};
+    ghost use Rattle.gw_route.specs.SeenFilter.{seen_filter};
 
     ghost Value = { Plain };
 
-    ghost view = { λ b. record { group = b.group; kind = b.kind; name = b.name; namespace = b.namespace; port = b.port; weight = b.weight; filters = b.filters } };
+    ghost view = { λ b. record { group = b.group; kind = b.kind; name = b.name; namespace = b.namespace; port = b.port; weight = b.weight; filters = map seen_filter b.filters.items } };
 }
 
 /// A rule of an HTTPRoute.
@@ -211,7 +224,6 @@ impl Model for Rule {
 }
 
 /// An HTTPRoute.
-#[derive(Drop)]
 pub struct HttpRoute {
     pub meta: Meta,
     pub parent_refs: Vec<ParentRef>,
@@ -225,4 +237,16 @@ impl Model for HttpRoute {
     ghost Value = { Plain };
 
     ghost view = { λ r. record { meta = r.meta; parent_refs = r.parent_refs.items; hostnames = r.hostnames.items; rules = r.rules.items } };
+}
+
+// Written out, so that crates above don't prove anew how its parts are dropped.
+impl Drop for HttpRoute {
+    fn drop(self) {
+        let HttpRoute {
+            meta: _,
+            parent_refs: _,
+            hostnames: _,
+            rules: _,
+        } = self;
+    }
 }

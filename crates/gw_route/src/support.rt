@@ -147,7 +147,7 @@ fn has_other_code(code: Option<u16>) -> bool
     ensures { result ≡ option_map_or rules.is_other_code code false }
 {
     match code {
-        Some(code) => code != 301 && code != 302,
+        Some(code) => !matches!(code, 301 | 302 | 303 | 307 | 308),
         None => false,
     }
 }
@@ -185,10 +185,34 @@ fn has_unsupported_filter(filters: &[Filter]) -> bool
     filters.iter().any(is_unsupported_filter)
 }
 
-fn has_backend_filters(backends: &[BackendRef]) -> bool
-    ensures { result ≡ list_any (λ b. b.filters) backends.now }
+fn is_unsupported_backend_filter(filter: &Filter) -> bool
+    ensures { result ≡ rules.is_unsupported_backend_filter (seen_filter filter.now) }
 {
-    backends.iter().any(|backend| backend.filters)
+    match filter {
+        Filter::RequestHeaderModifier(edits) | Filter::ResponseHeaderModifier(edits) => {
+            is_unsupported_edit(edits)
+        }
+        Filter::RequestRedirect(_) | Filter::UrlRewrite(_) | Filter::Other(_) => true,
+    }
+}
+
+fn has_unsupported_backend_filter(filters: &[Filter]) -> bool
+    ensures { result ≡ list_any (λ f. rules.is_unsupported_backend_filter (seen_filter f)) filters.now }
+{
+    filters.iter().any(is_unsupported_backend_filter)
+}
+
+#[tactic(auto, using(crate::proofs::Lists::list_any_map))]
+fn is_unsupported_backend(backend: &BackendRef) -> bool
+    ensures { result ≡ rules.is_unsupported_backend backend.now }
+{
+    has_unsupported_backend_filter(backend.filters.as_slice())
+}
+
+fn has_unsupported_backend(backends: &[BackendRef]) -> bool
+    ensures { result ≡ list_any rules.is_unsupported_backend backends.now }
+{
+    backends.iter().any(is_unsupported_backend)
 }
 
 #[tactic(auto, using(crate::proofs::Lists::list_any_map), unfolding(gw_text::specs::model::Unsupported::is_unsupported_rule))]
@@ -197,7 +221,7 @@ fn is_unsupported_rule(rule: &Rule) -> bool
 {
     has_unsupported_match(rule.matches.as_slice())
         || has_unsupported_filter(rule.filters.as_slice())
-        || has_backend_filters(rule.backend_refs.as_slice())
+        || has_unsupported_backend(rule.backend_refs.as_slice())
         || rule.timeouts
 }
 
@@ -333,6 +357,18 @@ fn lacks_prefix(rule: &Rule) -> bool
     has_prefix_replacement(rule.filters.as_slice()) && !has_one_prefix(rule.matches.as_slice())
 }
 
+fn repeats_type(backend: &BackendRef) -> bool
+    ensures { result ≡ rules.has_repeated_type backend.now.filters }
+{
+    has_repeated_type(backend.filters.as_slice())
+}
+
+fn has_backend_that_repeats_type(backends: &[BackendRef]) -> bool
+    ensures { result ≡ list_any (λ b. rules.has_repeated_type b.filters) backends.now }
+{
+    backends.iter().any(repeats_type)
+}
+
 #[tactic(auto, unfolding(gw_text::specs::model::Unsupported::is_incompatible_rule))]
 fn is_incompatible_rule(rule: &Rule) -> bool
     ensures { result ≡ rules.is_incompatible_rule rule.now }
@@ -340,6 +376,7 @@ fn is_incompatible_rule(rule: &Rule) -> bool
     has_repeated_type(rule.filters.as_slice())
         || has_redirect_beside_others(rule)
         || lacks_prefix(rule)
+        || has_backend_that_repeats_type(rule.backend_refs.as_slice())
 }
 
 fn has_unsupported_rule(list: &[Rule]) -> bool

@@ -1,4 +1,4 @@
-use gw_route::{BackendState, Filters};
+use gw_route::{BackendState, Edits, Filters};
 use gw_text::{Key, List};
 use std::marker::Model;
 
@@ -18,6 +18,10 @@ pub struct Backend {
     /// The port of the Service; 0 where it names no Service and no port.
     pub port: u16,
     pub state: BackendState,
+    /// What is done to the fields of the requests that it gets, after the rule's edits.
+    pub request: Edits,
+    /// What is done to the fields of its responses, after the rule's edits.
+    pub response: Edits,
 }
 
 impl Model for Backend {
@@ -26,11 +30,10 @@ impl Model for Backend {
 
     ghost Value = { Plain };
 
-    ghost view = { λ b. record { weight = b.weight; key = b.key; port = b.port; state = seen_state b.state } };
+    ghost view = { λ b. record { weight = b.weight; key = b.key; port = b.port; state = seen_state b.state; request = b.request; response = b.response } };
 }
 
 /// What a rule does with its requests.
-#[derive(Drop)]
 pub struct Plan {
     pub filters: Filters,
     pub backends: Backends,
@@ -44,4 +47,14 @@ impl Model for Plan {
     ghost Value = { Plain };
 
     ghost view = { λ p. record { filters = map seen_filter p.filters; backends = p.backends } };
+}
+
+// Written out, so that crates above don't prove anew how its parts are dropped.
+impl Drop for Plan {
+    fn drop(self) {
+        let Plan {
+            filters: _,
+            backends: _,
+        } = self;
+    }
 }

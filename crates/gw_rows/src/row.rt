@@ -7,7 +7,6 @@ use std::marker::Model;
 use std::sync::Arc;
 
 /// A listener at which requests are taken.
-#[derive(Drop)]
 pub struct ServedListener {
     /// Its place in its Gateway's list.
     pub number: u32,
@@ -24,8 +23,19 @@ impl Model for ServedListener {
     ghost view = { λ l. record { number = l.number; name = l.name; hostname = l.hostname; port = l.port } };
 }
 
+// Written out, so that crates above don't prove anew how its parts are dropped.
+impl Drop for ServedListener {
+    fn drop(self) {
+        let ServedListener {
+            number: _,
+            name: _,
+            hostname: _,
+            port: _,
+        } = self;
+    }
+}
+
 /// One match of one rule of a Route, for one of its hostnames, at a listener to which the Route is attached.
-#[derive(Drop)]
 pub struct Row {
     /// The listener's number.
     pub listener: u32,
@@ -69,6 +79,26 @@ impl Model for Row {
       test = r.test;
       plan = r.plan.value;
     } };
+}
+
+// Written out, so that crates above don't prove anew how its parts are dropped.
+impl Drop for Row {
+    fn drop(self) {
+        let Row {
+            listener: _,
+            name: _,
+            listener_host: _,
+            port: _,
+            hostname: _,
+            host_place: _,
+            key: _,
+            created: _,
+            rule: _,
+            place: _,
+            test: _,
+            plan: _,
+        } = self;
+    }
 }
 
 /// The served listeners of a door, and their rows.

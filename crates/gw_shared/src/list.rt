@@ -11,7 +11,6 @@ use std::alloc::Global;
 use std::marker::Model;
 
 /// A list, whose elements stand in leaves, and these in branches. Its copies share the branches and leaves in which they don't differ.
-#[derive(Drop)]
 pub struct SharedList<T: Drop> {
     branches: Vec<Branch<T>>,
     count: usize,
@@ -26,6 +25,16 @@ impl<T: Drop> Model for SharedList<T> {
     ghost view = { λ l. elements_of l.branches.items };
 
     ghost invariant = { λ l. l.count ≡ length (elements_of l.branches.items) };
+}
+
+// Written out, so that crates above don't prove anew how its parts are dropped.
+impl<T: Drop> Drop for SharedList<T> {
+    fn drop(self) {
+        let SharedList {
+            branches: _,
+            count: _,
+        } = self;
+    }
 }
 
 impl<T: Drop> SharedList<T> {

@@ -14,7 +14,6 @@ use std::marker::Model;
 const MOST_ON_AVERAGE: usize = 32;
 
 /// A map from bytes to values. Its copies share the buckets in which they don't differ.
-#[derive(Drop)]
 pub struct SharedMap<V: Drop> {
     buckets: Buckets<V>,
     count: usize,
@@ -27,6 +26,16 @@ impl<V: Drop> Model for SharedMap<V> {
     ghost Value = { List (List (Entry V)) };
 
     ghost view = { λ m. m.buckets };
+}
+
+// Written out, so that crates above don't prove anew how its parts are dropped.
+impl<V: Drop> Drop for SharedMap<V> {
+    fn drop(self) {
+        let SharedMap {
+            buckets: _,
+            count: _,
+        } = self;
+    }
 }
 
 // How many buckets there are next: one, or four times as many.

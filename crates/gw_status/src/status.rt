@@ -34,7 +34,6 @@ impl Model for ClassStatus {
 }
 
 /// The status of a listener.
-#[derive(Drop)]
 pub struct ListenerStatus {
     pub name: Name,
     pub state: ListenerState,
@@ -50,8 +49,18 @@ impl Model for ListenerStatus {
     ghost view = { λ s. record { name = s.name; state = s.state; attached = s.attached } };
 }
 
+// Written out, so that crates above don't prove anew how its parts are dropped.
+impl Drop for ListenerStatus {
+    fn drop(self) {
+        let ListenerStatus {
+            name: _,
+            state: _,
+            attached: _,
+        } = self;
+    }
+}
+
 /// The status of a Gateway, with those of its listeners.
-#[derive(Drop)]
 pub struct GatewayStatus {
     pub key: Key,
     pub state: GatewayState,
@@ -64,6 +73,17 @@ impl Model for GatewayStatus {
     ghost Value = { Plain };
 
     ghost view = { λ s. record { key = s.key; state = s.state; listeners = s.listeners } };
+}
+
+// Written out, so that crates above don't prove anew how its parts are dropped.
+impl Drop for GatewayStatus {
+    fn drop(self) {
+        let GatewayStatus {
+            key: _,
+            state: _,
+            listeners: _,
+        } = self;
+    }
 }
 
 /// The entry of a Route for one of its parentRefs.
@@ -89,7 +109,6 @@ impl Model for ParentStatus {
 }
 
 /// The status of a Route.
-#[derive(Drop)]
 pub struct RouteStatus {
     pub key: Key,
     pub parents: ParentStatuses,
@@ -101,6 +120,13 @@ impl Model for RouteStatus {
     ghost Value = { Plain };
 
     ghost view = { λ s. record { key = s.key; parents = s.parents } };
+}
+
+// Written out, so that crates above don't prove anew how its parts are dropped.
+impl Drop for RouteStatus {
+    fn drop(self) {
+        let RouteStatus { key: _, parents: _ } = self;
+    }
 }
 
 /// All statuses, each kind in key order.

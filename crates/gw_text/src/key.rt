@@ -17,7 +17,6 @@ use std::marker::Model;
 
 /// The namespace and the name of an object. The namespace is empty for kinds without one; each has its form, so that
 /// keys with one printed text are one key.
-#[derive(Drop)]
 pub struct Key {
     pub namespace: Text,
     pub name: Text,
@@ -33,6 +32,16 @@ impl Model for Key {
     ghost view = { λ k. record { namespace = k.namespace; name = k.name } };
 
     ghost invariant = { λ k. IsTrue (is_key (record { namespace = k.namespace; name = k.name })) };
+}
+
+// Written out, so that crates above don't prove anew how its parts are dropped.
+impl Drop for Key {
+    fn drop(self) {
+        let Key {
+            namespace: _,
+            name: _,
+        } = self;
+    }
 }
 
 impl Key {

@@ -7,7 +7,6 @@ use std::marker::Model;
 
 /// What every object says of itself: its key, its written creation, if there is one, and the
 /// generation of its spec.
-#[derive(Drop)]
 pub struct Meta {
     pub key: Key,
     pub created: Option<Second>,
@@ -20,6 +19,17 @@ impl Model for Meta {
     ghost Value = { Plain };
 
     ghost view = { λ m. record { key = m.key; created = m.created; generation = m.generation } };
+}
+
+// Written out, so that crates above don't prove anew how its parts are dropped.
+impl Drop for Meta {
+    fn drop(self) {
+        let Meta {
+            key: _,
+            created: _,
+            generation: _,
+        } = self;
+    }
 }
 
 impl Meta {

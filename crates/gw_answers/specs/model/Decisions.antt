@@ -2,7 +2,7 @@
 use Rattle.std.specs.Prelude.{ℕ, List, map, length, replicate, slice_get, Option, Some, None, option_map, unwrap_or}
 use Rattle.std.specs.Option.{option_map_or}
 use Rattle.gw_answers.specs.declared.books.Books.{Books}
-use Rattle.gw_answers.specs.model.Messages.{forward_of}
+use Rattle.gw_answers.specs.model.Messages.{forward_of, response_edits_of}
 use Rattle.gw_decide.specs.model.Verdicts.{Verdict, not_found, redirect, nothing, choose, redirect_in, verdict_of}
 use Rattle.gw_filters.specs.model.Locations.{location_of}
 use Rattle.gw_frames.specs.model.Requests.{Request}
@@ -11,10 +11,10 @@ use Rattle.gw_replies.specs.declared.fault.FaultName.{FaultName}
 use Rattle.gw_replies.specs.declared.fault.FaultName.TheVariants.{NoBackend, InvalidKind, RefNotPermitted, BackendNotFound, UnsupportedProtocol, NoEndpoints}
 use Rattle.gw_rows.specs.model.Rows.{Row, Rows}
 use Rattle.gw_text.specs.model.Addresses.{Socket}
-use Rattle.gw_text.specs.model.Filters.{Redirect}
+use Rattle.gw_text.specs.model.Filters.{Edits, Redirect}
 use Rattle.gw_text.specs.model.Names.{Key}
 use Rattle.gw_text.specs.model.Picks.{Choice, after_draw, drawn_from}
-use Rattle.gw_text.specs.model.Plans.{Backend, Plan}
+use Rattle.gw_text.specs.model.Plans.{Backend}
 use Rattle.gw_text.specs.model.References.{BackendState, invalid_kind, not_permitted, not_found as no_service, bad_protocol, no_endpoints, ready}
 
 -- A Service and a port of it; the port is 0 where none is given.
@@ -33,10 +33,10 @@ pub record Chosen : Type 0 where
   pub endpoint : Option Socket
 
 -- What is done: a reply of this program's own, with its code, Location and fault; or the request is sent to an endpoint, and the
--- response comes back by the rule.
+-- response comes back after these edits.
 pub data Action : Type 0 where
   replies : ℕ → Option (List ℕ) → Option FaultName → Action
-  forwards : Socket → List ℕ → Plan → Action
+  forwards : Socket → List ℕ → List Edits → Action
 
 pub record Decision : Type 0 where
   pub chosen : Chosen
@@ -85,11 +85,13 @@ abbrev pub redirected : Chosen → Row → Request → Redirect → Decision
 redirected chosen row q r =
     record { chosen = chosen; action = replies (redirect_code r) (Some (location_of r row.test.path q row.port)) None }
 
--- The request is sent to the endpoint.
-abbrev pub by_endpoint : Chosen → Row → Request → Option Socket → Decision
-by_endpoint chosen row q None = replied chosen 503 (Some NoEndpoints)
-by_endpoint chosen row q (Some to) =
-    record { chosen = record chosen { endpoint = Some to }; action = forwards to (forward_of row.plan row.test.path q) row.plan }
+-- The request is sent to an endpoint of the backend.
+abbrev pub by_endpoint : Chosen → Row → Request → Backend → Option Socket → Decision
+by_endpoint chosen row q b None = replied chosen 503 (Some NoEndpoints)
+by_endpoint chosen row q b (Some to) = record {
+  chosen = record chosen { endpoint = Some to };
+  action = forwards to (forward_of row.plan b row.test.path q) (response_edits_of row.plan b);
+}
 
 -- What the state of a backend comes to. Source: BackendRef ("If the specified backend does not exist or is not valid, a 500 status
 -- code is returned") and HTTPBackendRef; 503 for a Service without ready endpoints.
@@ -99,7 +101,7 @@ by_state chosen row q books b not_permitted = replied chosen 500 (Some RefNotPer
 by_state chosen row q books b no_service = replied chosen 500 (Some BackendNotFound)
 by_state chosen row q books b bad_protocol = replied chosen 500 (Some UnsupportedProtocol)
 by_state chosen row q books b no_endpoints = replied chosen 503 (Some NoEndpoints)
-by_state chosen row q books b (ready sockets) = by_endpoint chosen row q (picked_endpoint b sockets books)
+by_state chosen row q books b (ready sockets) = by_endpoint chosen row q b (picked_endpoint b sockets books)
 
 -- The request goes to the picked backend.
 abbrev pub by_backend : Chosen → Row → Request → Books → Option Backend → Decision

@@ -16,7 +16,7 @@ pub record ParentRef : Type 0 where
   pub section_name : Option (List ℕ)
   pub port : Option ℕ
 
--- Where a rule sends requests, with which share of them; filters says whether it has any of its own.
+-- Where a rule sends requests, with which share of them, and what is done to those requests and to their responses.
 -- Source: HTTPBackendRef of the Gateway API reference.
 pub record BackendRef : Type 0 where
   pub group : List ℕ
@@ -25,7 +25,7 @@ pub record BackendRef : Type 0 where
   pub namespace : List ℕ
   pub port : Option ℕ
   pub weight : ℕ
-  pub filters : Bool
+  pub filters : List Filter
 
 -- A rule; timeouts says whether it has any. Source: HTTPRouteRule of the Gateway API reference.
 pub record Rule : Type 0 where

@@ -12,7 +12,7 @@ use Rattle.gw_text.specs.declared.types.ValueMatchType.TheVariants as value_type
 use Rattle.gw_text.specs.model.Fields.{same_field_name}
 use Rattle.gw_text.specs.model.Filters.{Edits, PathModifier, replace_full_path, replace_prefix_match, another_modifier, Redirect, Filter, request_header_modifier, response_header_modifier, request_redirect, url_rewrite, another_filter}
 use Rattle.gw_text.specs.model.Matches.{Match}
-use Rattle.gw_text.specs.model.Routes.{Rule, HttpRoute}
+use Rattle.gw_text.specs.model.Routes.{BackendRef, Rule, HttpRoute}
 
 -- Exact and PathPrefix are supported. Source: PathMatchType.
 abbrev pub is_other_path_type : PathMatchType → Bool
@@ -79,9 +79,9 @@ schemes = codes "http" ∷ codes "https" ∷ []
 abbrev pub is_other_scheme : List ℕ → Bool
 is_other_scheme scheme = not (is_one_of schemes scheme)
 
--- A redirect may name the codes 301 and 302. Source: HTTPRequestRedirectFilter, statusCode.
+-- A redirect may name the codes 301, 302, 303, 307 and 308. Source: HTTPRequestRedirectFilter, statusCode.
 abbrev pub is_other_code : ℕ → Bool
-is_other_code code = not (code == 301 || code == 302)
+is_other_code code = not (code == 301 || code == 302 || code == 303 || code == 307 || code == 308)
 
 -- A redirect with a part that isn't supported.
 abbrev pub is_unsupported_redirect : Redirect → Bool
@@ -98,12 +98,25 @@ is_unsupported_filter (request_redirect r) = is_unsupported_redirect r
 is_unsupported_filter (url_rewrite w) = option_map_or is_other_modifier w.path false
 is_unsupported_filter (another_filter name) = true
 
+-- A filter of a backendRef that isn't supported: one that doesn't edit fields, or edits one that may not be edited.
+-- Source: HTTPBackendRef, filters.
+abbrev pub is_unsupported_backend_filter : Filter → Bool
+is_unsupported_backend_filter (request_header_modifier e) = is_unsupported_edit e
+is_unsupported_backend_filter (response_header_modifier e) = is_unsupported_edit e
+is_unsupported_backend_filter (request_redirect r) = true
+is_unsupported_backend_filter (url_rewrite w) = true
+is_unsupported_backend_filter (another_filter name) = true
+
+-- A backendRef with a filter that isn't supported.
+abbrev pub is_unsupported_backend : BackendRef → Bool
+is_unsupported_backend b = list_any is_unsupported_backend_filter b.filters
+
 -- A rule with a part that isn't supported.
 unfoldable pub is_unsupported_rule : Rule → Bool
 is_unsupported_rule r =
     list_any is_unsupported_match r.matches
     || list_any is_unsupported_filter r.filters
-    || list_any (λ b. b.filters) r.backend_refs
+    || list_any is_unsupported_backend r.backend_refs
     || r.timeouts
 
 -- A filter that edits fields of requests. Source: RequestHeaderModifier of HTTPRouteFilterType.
@@ -166,7 +179,7 @@ is_prefix_type (path_types.Other name) = false
 abbrev pub has_one_prefix : List Match → Bool
 has_one_prefix matches = nat_le (length matches) 1 && list_all (λ m. is_prefix_type m.path.sort) matches
 
--- A type of filter is there twice. Source: HTTPRouteRule, filters.
+-- A type of filter is there twice. Source: HTTPRouteRule, filters, and HTTPBackendRef, filters.
 abbrev pub has_repeated_type : List Filter → Bool
 has_repeated_type filters =
     is_repeated is_request_edit filters
@@ -174,13 +187,15 @@ has_repeated_type filters =
     || is_repeated is_redirect filters
     || is_repeated is_rewrite filters
 
--- Filters that can't be together: two of one type; a redirect beside a rewrite, or beside backendRefs; the replacement of a prefix
--- where the rule's matches don't name one prefix. Source: HTTPRouteRule.filters, HTTPURLRewriteFilter and HTTPPathModifier.
+-- Filters that can't be together: two of one type in the rule; a redirect beside a rewrite, or beside backendRefs; the replacement of
+-- a prefix where the rule's matches don't name one prefix; two of one type in a backendRef. A rule and its backendRef may have
+-- filters of one type. Source: HTTPRouteRule.filters, HTTPBackendRef.filters, HTTPURLRewriteFilter and HTTPPathModifier.
 unfoldable pub is_incompatible_rule : Rule → Bool
 is_incompatible_rule r =
     has_repeated_type r.filters
     || (list_any is_redirect r.filters && (list_any is_rewrite r.filters || nat_lt 0 (length r.backend_refs)))
     || (list_any replaces_prefix r.filters && not (has_one_prefix r.matches))
+    || list_any (λ b. has_repeated_type b.filters) r.backend_refs
 
 -- Why no listener can serve the Route as it stands, if so. Source: RouteReasonUnsupportedValue, RouteReasonIncompatibleFilters.
 unfoldable pub unsupported_of : HttpRoute → Option Reason
