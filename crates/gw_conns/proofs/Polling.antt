@@ -66,8 +66,8 @@ given_size to bytes head (Err faults.Cut) m n x y = ap length x.1.0 ∙ sym (ap 
 action_size : (action : Action) (answer : Option Answer) (head : Bool) (m n : List Exchange) → ExchangedBy action answer head m → ExchangedBy action answer head n
     → length m ≡ length n
 action_size (replies code location fault) answer head m n x y = ap length x.1 ∙ sym (ap length y.1)
-action_size (forwards to bytes plan) None head m n x y = ap length x ∙ sym (ap length y)
-action_size (forwards to bytes plan) (Some a) head m n x y = given_size to bytes head a m n x y
+action_size (forwards to bytes edits) None head m n x y = ap length x ∙ sym (ap length y)
+action_size (forwards to bytes edits) (Some a) head m n x y = given_size to bytes head a m n x y
 
 part_size : (p : Place) (part : Part) (m n : List Exchange) → PartExchanged p part m → PartExchanged p part n → length m ≡ length n
 part_size p (a_request q h) m n x y = action_size (decision_at p q h).action h.answer (is_head q) m n x y

@@ -9,7 +9,7 @@ use Rattle.gw_link.specs.Faults.{HasRisen}
 use Rattle.gw_link.specs.declared.order.UpstreamCall.{UpstreamCall}
 use Rattle.gw_replies.specs.declared.fault.BackendFault.TheVariants as faults
 use Rattle.gw_text.specs.model.Addresses.{Socket}
-use Rattle.gw_text.specs.model.Plans.{Plan}
+use Rattle.gw_text.specs.model.Filters.{Edits}
 use Rattle.gw_worker.proofs.Parts.{rows_append}
 use Rattle.gw_worker.specs.Exchanges.{AreRefused, HasRisenBy, RefusedBy, as_given, call_faults, is_call_fault}
 use Rattle.gw_worker.specs.model.Sessions.{Answer, Part, Place, a_close, a_cut, a_refused, a_request, a_wait, decision_at, row_by as row_of_answer, rows_of}
@@ -32,35 +32,35 @@ faults_then p xs ys a b c first second =
     (risen_then (call_faults (rows_of p xs)) (call_faults (rows_of p ys)) a b c first second)
 
 -- A row for what a backend answered has such a fault only where a call failed.
-pub faults_answered : (front : ℕ) (chosen : Chosen) (to : Socket) (bytes : List ℕ) (plan : Plan) (a : Answer) (f f' : ℕ) → f ≤ f' → (IsCallFault (as_given a) → HasRisen f f')
-    → HasRisenBy (call_faults (row_of_answer front chosen (forwards to bytes plan) (Some a) ++ [])) f f'
-faults_answered front chosen to bytes plan (Ok r) f f' later cause = inl (omega (arith, later))
-faults_answered front chosen to bytes plan (Err faults.Open) f f' later cause = by (cause tt)
+pub faults_answered : (front : ℕ) (chosen : Chosen) (to : Socket) (bytes : List ℕ) (edits : List Edits) (a : Answer) (f f' : ℕ) → f ≤ f' → (IsCallFault (as_given a) → HasRisen f f')
+    → HasRisenBy (call_faults (row_of_answer front chosen (forwards to bytes edits) (Some a) ++ [])) f f'
+faults_answered front chosen to bytes edits (Ok r) f f' later cause = inl (omega (arith, later))
+faults_answered front chosen to bytes edits (Err faults.Open) f f' later cause = by (cause tt)
   where
     by : HasRisen f f' → HasRisenBy 1 f f'
     by (inl less) = inl (omega (arith, less))
     by (inr last) = inr last
-faults_answered front chosen to bytes plan (Err faults.Send) f f' later cause = by (cause tt)
+faults_answered front chosen to bytes edits (Err faults.Send) f f' later cause = by (cause tt)
   where
     by : HasRisen f f' → HasRisenBy 1 f f'
     by (inl less) = inl (omega (arith, less))
     by (inr last) = inr last
-faults_answered front chosen to bytes plan (Err faults.Receive) f f' later cause = by (cause tt)
+faults_answered front chosen to bytes edits (Err faults.Receive) f f' later cause = by (cause tt)
   where
     by : HasRisen f f' → HasRisenBy 1 f f'
     by (inl less) = inl (omega (arith, less))
     by (inr last) = inr last
-faults_answered front chosen to bytes plan (Err faults.Head) f f' later cause = inl (omega (arith, later))
-faults_answered front chosen to bytes plan (Err faults.Body) f f' later cause = inl (omega (arith, later))
-faults_answered front chosen to bytes plan (Err faults.TooBig) f f' later cause = inl (omega (arith, later))
-faults_answered front chosen to bytes plan (Err faults.Cut) f f' later cause = inl (omega (arith, later))
+faults_answered front chosen to bytes edits (Err faults.Head) f f' later cause = inl (omega (arith, later))
+faults_answered front chosen to bytes edits (Err faults.Body) f f' later cause = inl (omega (arith, later))
+faults_answered front chosen to bytes edits (Err faults.TooBig) f f' later cause = inl (omega (arith, later))
+faults_answered front chosen to bytes edits (Err faults.Cut) f f' later cause = inl (omega (arith, later))
 
 -- A call that failed did so for whoever sees more calls.
 refused_by_wider : (refuses wider : UpstreamCall → Socket → Type 0) (action : Action) (answer : Option Answer)
     → ((call : UpstreamCall) (to : Socket) → refuses call to → wider call to) → RefusedBy refuses action answer → RefusedBy wider action answer
 refused_by_wider refuses wider (replies code location fault) answer more is = tt
-refused_by_wider refuses wider (forwards to bytes plan) None more is = tt
-refused_by_wider refuses wider (forwards to bytes plan) (Some a) more is = refused_wider refuses wider to (as_given a) (λ call. more call to) is
+refused_by_wider refuses wider (forwards to bytes edits) None more is = tt
+refused_by_wider refuses wider (forwards to bytes edits) (Some a) more is = refused_wider refuses wider to (as_given a) (λ call. more call to) is
 
 pub refused_all : (refuses wider : UpstreamCall → Socket → Type 0) (p : Place) (parts : List Part)
     → ((call : UpstreamCall) (to : Socket) → refuses call to → wider call to) → AreRefused refuses p parts → AreRefused wider p parts

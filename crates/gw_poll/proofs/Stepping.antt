@@ -391,7 +391,7 @@ goes_answered p s s' h x a before after n n' refuses w left written f over cause
         rest_is = append-nil (h.met ++ over.met');
         told = over.told;
         failed = subst (λ (y : Action). HasRisenBy (call_faults (row_by (length hd.changes) (decision_at p q hd).chosen y (Some a) ++ [])) n n') (sym e.action)
-            (faults_answered (length hd.changes) (decision_at p q hd).chosen x.to x.bytes e.plan a n n' later cause);
+            (faults_answered (length hd.changes) (decision_at p q hd).chosen x.to x.bytes e.edits a n n' later cause);
       };
       follows = record {
         conn = subst (λ (st : Stage). StandsFor s'.conn p h.bytes ((h.parts ++ part ∷ []) ++ []) (h.text ++ unwritten st)) (sym r.next)

@@ -13,8 +13,8 @@ use Rattle.gw_poll.proofs.Counting.{faults_append}
 
 none_exchanged : (action : Action) (answer : Option Answer) (head : Bool) → answer ≡ None → ExchangedBy action answer head []
 none_exchanged (replies code location fault) answer head none = (none, refl)
-none_exchanged (forwards to bytes plan) None head none = refl
-none_exchanged (forwards to bytes plan) (Some a) head none = absurd (cc none)
+none_exchanged (forwards to bytes edits) None head none = refl
+none_exchanged (forwards to bytes edits) (Some a) head none = absurd (cc none)
 
 pub own_exchanged : (p : Place) (parts : List Part) → AreUnanswered parts → Exchanged p parts []
 own_exchanged p [] all = refl
@@ -31,8 +31,8 @@ own_refused refuses p (a_request q h ∷ parts) all = (by (decision_at p q h).ac
   where
     by : (action : Action) (answer : Option Answer) → answer ≡ None → RefusedBy refuses action answer
     by (replies code location fault) answer none = tt
-    by (forwards to bytes plan) None none = tt
-    by (forwards to bytes plan) (Some a) none = absurd (cc none)
+    by (forwards to bytes edits) None none = tt
+    by (forwards to bytes edits) (Some a) none = absurd (cc none)
 own_refused refuses p (a_wait ∷ parts) all = own_refused refuses p parts all
 own_refused refuses p (a_refused code ∷ parts) all = own_refused refuses p parts all
 own_refused refuses p (a_close ∷ parts) all = own_refused refuses p parts all
@@ -44,8 +44,8 @@ own_row : (p : Place) (q : Request) (h : Handled) (action : Action) (answer : Op
 own_row p q h (replies code location fault) answer is none =
     let none_more : ◌≡◌ {A = ℕ} (cond (is_call_fault fault) 1 0) 0 = ap (λ (b : Bool). cond b 1 0) (own_fault (rows_after p h.changes) q h.books code location fault is) in
     omega (arith, none_more)
-own_row p q h (forwards to bytes plan) None is none = refl
-own_row p q h (forwards to bytes plan) (Some a) is none = absurd (cc none)
+own_row p q h (forwards to bytes edits) None is none = refl
+own_row p q h (forwards to bytes edits) (Some a) is none = absurd (cc none)
 
 pub own_faults : (p : Place) (parts : List Part) → AreUnanswered parts → call_faults (rows_of p parts) ≡ 0
 own_faults p [] all = refl

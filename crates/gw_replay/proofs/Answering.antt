@@ -48,18 +48,18 @@ some_forward method target host minor fields body framed =
     ++ via_line minor ∷ only_if framed (length_line (length body)) ++ close_line ∷ [])
     (if framed then body else [])
 
-some_forwarded : (plan : Plan) (m : PathMatch) (q : Request) → 0 < length (forward_of plan m q)
+some_forwarded : (plan : Plan) (b : Backend) (m : PathMatch) (q : Request) → 0 < length (forward_of plan b m q)
 unfolding forward_of
-some_forwarded plan m q = some_forward _ _ _ _ _ _ _
+some_forwarded plan b m q = some_forward _ _ _ _ _ _ _
 
 -- What is sent to a backend isn't empty.
 abbrev IsSome : Action → Type 0
 IsSome (replies code location fault) = ⊤
-IsSome (forwards to bytes plan) = 0 < length bytes
+IsSome (forwards to bytes edits) = 0 < length bytes
 
-some_endpoint : (chosen : Chosen) (row : Row) (q : Request) (to : Option Socket) → IsSome (by_endpoint chosen row q to).action
-some_endpoint chosen row q None = tt
-some_endpoint chosen row q (Some to) = some_forwarded row.plan row.test.path q
+some_endpoint : (chosen : Chosen) (row : Row) (q : Request) (b : Backend) (to : Option Socket) → IsSome (by_endpoint chosen row q b to).action
+some_endpoint chosen row q b None = tt
+some_endpoint chosen row q b (Some to) = some_forwarded row.plan b row.test.path q
 
 some_state : (chosen : Chosen) (row : Row) (q : Request) (books : Books) (b : Backend) (s : BackendState) → IsSome (by_state chosen row q books b s).action
 some_state chosen row q books b invalid_kind = tt
@@ -67,7 +67,7 @@ some_state chosen row q books b not_permitted = tt
 some_state chosen row q books b no_service = tt
 some_state chosen row q books b bad_protocol = tt
 some_state chosen row q books b no_endpoints = tt
-some_state chosen row q books b (ready sockets) = some_endpoint chosen row q _
+some_state chosen row q books b (ready sockets) = some_endpoint chosen row q b _
 
 some_backend : (chosen : Chosen) (row : Row) (q : Request) (books : Books) (b : Option Backend) → IsSome (by_backend chosen row q books b).action
 some_backend chosen row q books None = tt
@@ -183,8 +183,8 @@ answers_so orders up up' to bytes head met (Err faults.Cut) b none some all made
 answered_so : (orders : List Order) (up up' : UpstreamState) (action : Action) (answer : Option Answer) (head : Bool) (met : List Exchange) → AreBackends up orders → up'.starved ≡ 0
     → IsSome action → IsReplied action answer → AreScripted orders met → ExchangedBy action answer head met → RefusedBy (Refuses up up') action answer → IsAnswered orders action head answer
 answered_so orders up up' (replies code location fault) answer head met b none some whole all made refused = made.0
-answered_so orders up up' (forwards to bytes plan) None head met b none some whole all made refused = absurd whole
-answered_so orders up up' (forwards to bytes plan) (Some a) head met b none some whole all made refused = answers_so orders up up' to bytes head met a b none some all made refused
+answered_so orders up up' (forwards to bytes edits) None head met b none some whole all made refused = absurd whole
+answered_so orders up up' (forwards to bytes edits) (Some a) head met b none some whole all made refused = answers_so orders up up' to bytes head met a b none some all made refused
 
 scripted_front : (orders : List Order) (xs ys : List Exchange) → AreScripted orders (xs ++ ys) → AreScripted orders xs
 scripted_front orders [] ys all = tt

@@ -14,14 +14,14 @@ use Rattle.gw_text.specs.model.References.{BackendState, invalid_kind, not_permi
 
 abbrev pub HasEndpoint : Action → Option Socket → Type 0
 HasEndpoint (replies code location fault) endpoint = endpoint ≡ None
-HasEndpoint (forwards to bytes plan) endpoint = endpoint ≡ Some to
+HasEndpoint (forwards to bytes edits) endpoint = endpoint ≡ Some to
 
 abbrev Fits : Decision → Type 0
 Fits d = HasEndpoint d.action d.chosen.endpoint
 
-fits_endpoint : (chosen : Chosen) (row : Row) (q : Request) (to : Option Socket) → chosen.endpoint ≡ None → Fits (by_endpoint chosen row q to)
-fits_endpoint chosen row q None none = none
-fits_endpoint chosen row q (Some to) none = refl
+fits_endpoint : (chosen : Chosen) (row : Row) (q : Request) (b : Backend) (to : Option Socket) → chosen.endpoint ≡ None → Fits (by_endpoint chosen row q b to)
+fits_endpoint chosen row q b None none = none
+fits_endpoint chosen row q b (Some to) none = refl
 
 fits_state : (chosen : Chosen) (row : Row) (q : Request) (books : Books) (b : Backend) (state : BackendState) → chosen.endpoint ≡ None → Fits (by_state chosen row q books b state)
 fits_state chosen row q books b invalid_kind none = none
@@ -29,7 +29,7 @@ fits_state chosen row q books b not_permitted none = none
 fits_state chosen row q books b no_service none = none
 fits_state chosen row q books b bad_protocol none = none
 fits_state chosen row q books b no_endpoints none = none
-fits_state chosen row q books b (ready sockets) none = fits_endpoint chosen row q (picked_endpoint b sockets books) none
+fits_state chosen row q books b (ready sockets) none = fits_endpoint chosen row q b (picked_endpoint b sockets books) none
 
 fits_backend : (chosen : Chosen) (row : Row) (q : Request) (books : Books) (b : Option Backend) → chosen.endpoint ≡ None → Fits (by_backend chosen row q books b)
 fits_backend chosen row q books None none = none

@@ -7,7 +7,7 @@ use Rattle.gw_answers.specs.model.ServedRows.{ServedRow, fault_of, served_row, s
 use Rattle.gw_link.specs.Exchanges.{Exchange}
 use Rattle.gw_replies.specs.declared.fault.BackendFault.TheVariants.{Open, Send, Receive, Head, Body, TooBig, Cut}
 use Rattle.gw_text.specs.model.Addresses.{Socket}
-use Rattle.gw_text.specs.model.Plans.{Plan}
+use Rattle.gw_text.specs.model.Filters.{Edits}
 use Rattle.gw_worker.specs.Conns.{AreWhole, IsReplied}
 use Rattle.gw_worker.specs.Exchanges.{Exchanged, ExchangedBy}
 use Rattle.gw_worker.specs.model.Sessions.{Answer, Part, Place, a_close, a_cut, a_refused, a_request, a_wait, decision_at, row_by, rows_after, rows_of}
@@ -48,17 +48,17 @@ module _ (name : List ℕ) (line front : ℕ) (chosen : Chosen) (to : Socket) (b
       → paired_text name line (row_for (Err Send) ∷ more) (first ++ rest) ≡ (row_line name line (row_for (Err Send)) None ++ []) ++ paired_text name line more rest
   part_sent first e is = takes_one name line (row_for (Err Send)) e first rest more (rw endpoint refl) is
 
-  answer_paired : (plan : Plan) (head : Bool) (a : Answer) (first : List Exchange) → ExchangedBy (forwards to bytes plan) (Some a) head first
+  answer_paired : (edits : List Edits) (head : Bool) (a : Answer) (first : List Exchange) → ExchangedBy (forwards to bytes edits) (Some a) head first
       → paired_text name line (row_for a ∷ more) (first ++ rest)
-      ≡ (row_line name line (row_for a) (forwarded (forwards to bytes plan) (Some a)) ++ []) ++ paired_text name line more rest
-  answer_paired plan head (Ok r) first x = all_sent (Ok r) first x.0 refl refl x.1.0 x.1.2.0
-  answer_paired plan head (Err Open) first x = none_open first x
-  answer_paired plan head (Err Send) first x = part_sent first x.0 x.1.0
-  answer_paired plan head (Err Receive) first x = all_sent (Err Receive) first x.0 refl refl x.1.0 x.1.2.0
-  answer_paired plan head (Err Head) first x = all_sent (Err Head) first x.0 refl refl x.1.0 x.1.2.0
-  answer_paired plan head (Err Body) first x = all_sent (Err Body) first x.0 refl refl x.1.0 x.1.2.0
-  answer_paired plan head (Err TooBig) first x = all_sent (Err TooBig) first x.0 refl refl x.1.0 x.1.2.0
-  answer_paired plan head (Err Cut) first x = all_sent (Err Cut) first x.0 refl refl x.1.0 x.1.2.0
+      ≡ (row_line name line (row_for a) (forwarded (forwards to bytes edits) (Some a)) ++ []) ++ paired_text name line more rest
+  answer_paired edits head (Ok r) first x = all_sent (Ok r) first x.0 refl refl x.1.0 x.1.2.0
+  answer_paired edits head (Err Open) first x = none_open first x
+  answer_paired edits head (Err Send) first x = part_sent first x.0 x.1.0
+  answer_paired edits head (Err Receive) first x = all_sent (Err Receive) first x.0 refl refl x.1.0 x.1.2.0
+  answer_paired edits head (Err Head) first x = all_sent (Err Head) first x.0 refl refl x.1.0 x.1.2.0
+  answer_paired edits head (Err Body) first x = all_sent (Err Body) first x.0 refl refl x.1.0 x.1.2.0
+  answer_paired edits head (Err TooBig) first x = all_sent (Err TooBig) first x.0 refl refl x.1.0 x.1.2.0
+  answer_paired edits head (Err Cut) first x = all_sent (Err Cut) first x.0 refl refl x.1.0 x.1.2.0
 
 -- the row of a request
 request_paired : (name : List ℕ) (line front : ℕ) (chosen : Chosen) (action : Action) (answer : Option Answer) (head : Bool) → HasEndpoint action chosen.endpoint
@@ -67,9 +67,9 @@ request_paired : (name : List ℕ) (line front : ℕ) (chosen : Chosen) (action 
     ≡ flat_map (λ row. row_line name line row (forwarded action answer)) (row_by front chosen action answer) ++ paired_text name line more rest
 request_paired name line front chosen (replies code location fault) answer head endpoint replied first rest more x =
     takes_none name line (served_row front chosen code fault) first rest more (rw endpoint refl) x.1
-request_paired name line front chosen (forwards to bytes plan) None head endpoint replied first rest more x = absurd replied
-request_paired name line front chosen (forwards to bytes plan) (Some a) head endpoint replied first rest more x =
-    answer_paired name line front chosen to bytes rest more endpoint plan head a first x
+request_paired name line front chosen (forwards to bytes edits) None head endpoint replied first rest more x = absurd replied
+request_paired name line front chosen (forwards to bytes edits) (Some a) head endpoint replied first rest more x =
+    answer_paired name line front chosen to bytes rest more endpoint edits head a first x
 
 -- all rows
 pub all_paired : (name : List ℕ) (line : ℕ) (p : Place) (parts : List Part) (met : List Exchange) → AreWhole p parts → Exchanged p parts met

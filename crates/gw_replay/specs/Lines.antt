@@ -66,8 +66,8 @@ sent_for bytes answer = Some bytes
 
 abbrev pub forwarded : Action → Option Answer → Option (List ℕ)
 forwarded (replies code location fault) answer = None
-forwarded (forwards to bytes plan) None = None
-forwarded (forwards to bytes plan) (Some answer) = sent_for bytes answer
+forwarded (forwards to bytes edits) None = None
+forwarded (forwards to bytes edits) (Some answer) = sent_for bytes answer
 
 -- The line of a request's row.
 abbrev pub part_text : List ℕ → ℕ → Place → Part → List ℕ

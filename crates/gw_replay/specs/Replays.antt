@@ -144,8 +144,8 @@ AnswersBy orders to head answer =
 -- A request that goes to a backend has that backend's answer; another one has none.
 abbrev pub IsAnswered : List Order → Action → Bool → Option Answer → Type 0
 IsAnswered orders (replies code location fault) head answer = answer ≡ None
-IsAnswered orders (forwards to bytes plan) head None = ⊥
-IsAnswered orders (forwards to bytes plan) head (Some answer) = AnswersBy orders to head answer
+IsAnswered orders (forwards to bytes edits) head None = ⊥
+IsAnswered orders (forwards to bytes edits) head (Some answer) = AnswersBy orders to head answer
 
 -- Each of the requests among these.
 abbrev pub AreAnswered : List Order → Place → List Part → Type 0

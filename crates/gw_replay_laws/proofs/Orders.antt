@@ -80,6 +80,6 @@ same_answer_by orders others to head a b e x y =
 pub same_answers : (orders others : List Order) (action : Action) (head : Bool) (a b : Option Answer)
     → map order_view orders ≡ map order_view others → IsAnswered orders action head a → IsAnswered others action head b → a ≡ b
 same_answers orders others (replies code location fault) head a b e x y = x ∙ sym y
-same_answers orders others (forwards to bytes plan) head None b e x y = absurd x
-same_answers orders others (forwards to bytes plan) head (Some a) None e x y = absurd y
-same_answers orders others (forwards to bytes plan) head (Some a) (Some b) e x y = ap Some (same_answer_by orders others to head a b e x y)
+same_answers orders others (forwards to bytes edits) head None b e x y = absurd x
+same_answers orders others (forwards to bytes edits) head (Some a) None e x y = absurd y
+same_answers orders others (forwards to bytes edits) head (Some a) (Some b) e x y = ap Some (same_answer_by orders others to head a b e x y)

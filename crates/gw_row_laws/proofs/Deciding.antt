@@ -73,10 +73,10 @@ some_backend row books some = let drawn = backend_drawn row books some in there_
 pub some_endpoint : (b : Backend) (sockets : List Socket) (books : Books) → 0 < length sockets → IsSome (picked_endpoint b sockets books)
 some_endpoint b sockets books some = let drawn = endpoint_drawn b sockets books some in there_is (picked_endpoint b sockets books) drawn.0 drawn.1
 
-sent : (chosen : Chosen) (row : Row) (q : Request) (sockets : List Socket) (picked : Option Socket) (to : Socket) → picked ≡ Some to → Contains sockets to
-    → IsSentTo sockets (by_endpoint chosen row q picked).action
-sent chosen row q sockets picked to e held =
-    subst (λ (p : Option Socket). IsSentTo sockets (by_endpoint chosen row q p).action) (sym e) (to, _, _, held, refl)
+sent : (chosen : Chosen) (row : Row) (q : Request) (b : Backend) (sockets : List Socket) (picked : Option Socket) (to : Socket) → picked ≡ Some to → Contains sockets to
+    → IsSentTo sockets (by_endpoint chosen row q b picked).action
+sent chosen row q b sockets picked to e held =
+    subst (λ (p : Option Socket). IsSentTo sockets (by_endpoint chosen row q b p).action) (sym e) (to, _, _, held, refl)
 
 by_a_state : (chosen : Chosen) (row : Row) (q : Request) (books : Books) (b : Backend) (state : BackendState) → ((sockets : List Socket) → state ≡ ready sockets → 0 < length sockets)
     → IsByState state (by_state chosen row q books b state).action
@@ -87,7 +87,7 @@ by_a_state chosen row q books b bad_protocol some = refl
 by_a_state chosen row q books b no_endpoints some = refl
 by_a_state chosen row q books b (ready sockets) some =
     let drawn = endpoint_drawn b sockets books (some sockets refl) in
-    sent chosen row q sockets (picked_endpoint b sockets books) drawn.0 drawn.1 drawn.2
+    sent chosen row q b sockets (picked_endpoint b sockets books) drawn.0 drawn.1 drawn.2
 
 by_choice : (listener : Option (List ℕ)) (row : Row) (q : Request) (books : Books) → AreReady row → sends_nothing row.plan ≡ false
     → IsByVerdict (choose row) books (by_verdict listener q books (choose row)).action

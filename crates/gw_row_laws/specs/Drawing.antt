@@ -8,7 +8,8 @@ use Rattle.gw_replies.specs.declared.fault.FaultName.{FaultName}
 use Rattle.gw_replies.specs.declared.fault.FaultName.TheVariants.{NoBackend, InvalidKind, RefNotPermitted, BackendNotFound, UnsupportedProtocol, NoEndpoints}
 use Rattle.gw_rows.specs.model.Rows.{Row, Rows}
 use Rattle.gw_text.specs.model.Addresses.{Socket}
-use Rattle.gw_text.specs.model.Plans.{Backend, Plan}
+use Rattle.gw_text.specs.model.Filters.{Edits}
+use Rattle.gw_text.specs.model.Plans.{Backend}
 use Rattle.gw_text.specs.model.References.{BackendState, invalid_kind, not_permitted, not_found as no_service, bad_protocol, no_endpoints, ready}
 
 -- A backend that is ready has a socket.
@@ -36,7 +37,7 @@ action_of rows q books = (decision_of rows q books).action
 
 -- The request is sent to one of these sockets, and not answered here.
 abbrev pub IsSentTo : List Socket → Action → Type 0
-IsSentTo sockets action = (to : Socket) × (bytes : List ℕ) × (plan : Plan) × Contains sockets to × (action ≡ forwards to bytes plan)
+IsSentTo sockets action = (to : Socket) × (bytes : List ℕ) × (edits : List Edits) × Contains sockets to × (action ≡ forwards to bytes edits)
 
 -- The client is sent elsewhere, and no fault is named.
 abbrev pub IsRedirected : Action → Type 0
@@ -66,7 +67,7 @@ GoesByTheBackendDrawn rows = (q : Request) (books : Books) → IsByVerdict (verd
 -- The fault that a reply of this program's own names.
 abbrev pub fault_of : Action → Option FaultName
 fault_of (replies code location fault) = fault
-fault_of (forwards to bytes plan) = None
+fault_of (forwards to bytes edits) = None
 
 -- The row that serves a request doesn't redirect it and sends it nowhere: its rule has no backendRefs, or only such of weight 0.
 abbrev pub IsSentNowhere : Rows → Request → Type 0

@@ -54,7 +54,7 @@ module _ (controller : List ℕ) (w after : World) (r : HttpRoute) where
       (all_by SameState (λ b. unresolved (backend_state_in after r.meta.key.namespace b) ≡ unresolved (backend_state_in w r.meta.key.namespace b)) (λ b same. ap unresolved same) (backend_refs_of r) backends))
 
   same_backend : (b : BackendRef) → SameState b → backend_of after r.meta.key.namespace b ≡ backend_of w r.meta.key.namespace b
-  same_backend b same = ap (λ s. record { weight = b.weight; key = backend_key b; port = unwrap_or b.port 0; state = s }) same
+  same_backend b same = ap (λ s. record (backend_of w r.meta.key.namespace b) { state = s }) same
 
   same_rules : (rules : List Rule) → AllByRecursion SameState (flat_map (λ rule. rule.backend_refs) rules) → map (plan_of after r.meta.key.namespace) rules ≡ map (plan_of w r.meta.key.namespace) rules
   same_rules [] backends = refl

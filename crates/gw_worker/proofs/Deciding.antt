@@ -66,11 +66,11 @@ left_behind p before after q d = record {
 -- A reply of this program's own has no fault of a call.
 abbrev IsOwn : Action → Type 0
 IsOwn (replies code location fault) = is_call_fault fault ≡ false
-IsOwn (forwards to bytes plan) = Unit {0}
+IsOwn (forwards to bytes edits) = Unit {0}
 
-own_endpoint : (chosen : Chosen) (row : Row) (q : Request) (to : Option Socket) → IsOwn (by_endpoint chosen row q to).action
-own_endpoint chosen row q None = refl
-own_endpoint chosen row q (Some to) = tt
+own_endpoint : (chosen : Chosen) (row : Row) (q : Request) (b : Backend) (to : Option Socket) → IsOwn (by_endpoint chosen row q b to).action
+own_endpoint chosen row q b None = refl
+own_endpoint chosen row q b (Some to) = tt
 
 own_state : (chosen : Chosen) (row : Row) (q : Request) (books : Books) (b : Backend) (s : BackendState) → IsOwn (by_state chosen row q books b s).action
 own_state chosen row q books b invalid_kind = refl
@@ -78,7 +78,7 @@ own_state chosen row q books b not_permitted = refl
 own_state chosen row q books b no_service = refl
 own_state chosen row q books b bad_protocol = refl
 own_state chosen row q books b no_endpoints = refl
-own_state chosen row q books b (ready sockets) = own_endpoint chosen row q _
+own_state chosen row q books b (ready sockets) = own_endpoint chosen row q b _
 
 own_backend : (chosen : Chosen) (row : Row) (q : Request) (books : Books) (b : Option Backend) → IsOwn (by_backend chosen row q books b).action
 own_backend chosen row q books None = refl

@@ -56,8 +56,8 @@ at_most_one to bytes head (Err faults.Cut) met made = whole_sent to bytes met ma
 refused_by_wider : (refuses wider : UpstreamCall → Socket → Type 0) (action : Action) (answer : Option Answer)
     → ((call : UpstreamCall) (to : Socket) → refuses call to → wider call to) → RefusedBy refuses action answer → RefusedBy wider action answer
 refused_by_wider refuses wider (replies code location fault) answer more is = tt
-refused_by_wider refuses wider (forwards to bytes plan) None more is = tt
-refused_by_wider refuses wider (forwards to bytes plan) (Some a) more is = refused_wider refuses wider to (as_given a) (λ call. more call to) is
+refused_by_wider refuses wider (forwards to bytes edits) None more is = tt
+refused_by_wider refuses wider (forwards to bytes edits) (Some a) more is = refused_wider refuses wider to (as_given a) (λ call. more call to) is
 
 pub refused_all : (refuses wider : UpstreamCall → Socket → Type 0) (p : Place) (parts : List Part)
     → ((call : UpstreamCall) (to : Socket) → refuses call to → wider call to) → AreRefused refuses p parts → AreRefused wider p parts

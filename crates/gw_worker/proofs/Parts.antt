@@ -60,8 +60,8 @@ exchanged_append p (x ∷ xs) ys met more first second =
 -- a request that has its reply has one row
 pub one_row : (front : ℕ) (chosen : Chosen) (action : Action) (answer : Option Answer) → IsReplied action answer → length (row_by front chosen action answer) ≡ 1
 one_row front chosen (replies code location fault) answer whole = refl
-one_row front chosen (forwards to bytes plan) None whole = absurd whole
-one_row front chosen (forwards to bytes plan) (Some a) whole = refl
+one_row front chosen (forwards to bytes edits) None whole = absurd whole
+one_row front chosen (forwards to bytes edits) (Some a) whole = refl
 
 -- there are as many rows as requests
 pub rows_count : (p : Place) (n : ℕ) (parts : List Part) → AreWhole p parts → asks_behind n parts ≡ n + length (rows_of p parts)

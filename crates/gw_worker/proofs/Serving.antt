@@ -124,10 +124,10 @@ came_replied c d p bytes parts text q h front e head last code location fault s 
 -- a request for which a backend is asked
 pub came_asked : (c d : Conn) (p : Place) (bytes : List ℕ) (parts : List Part) (text : List ℕ) (q : Request) (h : Handled) (front : ℕ) (e : Decision) (head last : Bool)
     (to : Socket) (sent : List ℕ) (a : Asked) → StandsBehind c p bytes parts (an_ask q) text → IsReady p parts q h front e head last
-    → e ≡ record { chosen = a.chosen; action = forwards to sent a.plan.value } → a.front ≡ front → a.head ≡ head → a.last ≡ last → d ≡ record c { stage = Asking a }
+    → e ≡ record { chosen = a.chosen; action = forwards to sent a.edits } → a.front ≡ front → a.head ≡ head → a.last ≡ last → d ≡ record c { stage = Asking a }
     → Came p d bytes parts text (a_request q h) (turns.Exchange to sent head)
 came_asked c d p bytes parts text q h front e head last to sent a s r view same_front same_head same_last is =
-    let acts : (decision_at p q h).action ≡ forwards to sent a.plan.value = ap (λ (x : Decision). x.action) (sym r.decision ∙ view) in
+    let acts : (decision_at p q h).action ≡ forwards to sent a.edits = ap (λ (x : Decision). x.action) (sym r.decision ∙ view) in
     subst (λ (k : Conn). Came p k bytes parts text (a_request q h) (turns.Exchange to sent head)) (sym is) (record {
       stands = record {
         door = s.door;
@@ -151,37 +151,37 @@ came_asked c d p bytes parts text q h front e head last to sent a s r view same_
           unended = ap ended (steps_append parts (a_request q h ∷ [])) ∙ behind_ask 0 Closed (map step_of parts) q s.unended;
         };
       };
-      says = record { request = q; handled = h; plan = a.plan.value; more_is = refl; action = acts; head_is = r.head_is };
+      says = record { request = q; handled = h; edits = a.edits; more_is = refl; action = acts; head_is = r.head_is };
     })
 
 -- the reply for what a backend answered
 pub replied : (c d : Conn) (a : Asked) (answer : Answer) (p : Place) (bytes : List ℕ) (parts : List Part) (text : List ℕ) → StandsFor c p bytes parts text
     → c.stage ≡ Answered a answer → d.door ≡ c.door → d.inlet ≡ c.inlet → d.stage ≡ Reading
     → d.rows ≡ c.rows ++ served_row a.front a.chosen (status_of answer) (fault_of answer) ∷ []
-    → StandsFor d p bytes parts (text ++ reply_of a.plan.value answer a.head a.last)
+    → StandsFor d p bytes parts (text ++ reply_of a.edits answer a.head a.last)
 replied c d a answer p bytes parts text s stage door inlet reading rows =
     let o : IsOpen p a (Some answer) c.rows parts text = subst (λ (st : Stage). Serves st p c.rows parts text) stage s.serves in
     let part : Part = a_request o.request o.handled in
     let one : row_of p part ≡ served_row a.front a.chosen (status_of answer) (fault_of answer) ∷ [] =
     ap (λ (x : Action). row_by (length o.handled.changes) (decision_at p o.request o.handled).chosen x o.handled.answer) o.asked.action
-    ∙ ap (λ (x : Option Answer). row_by (length o.handled.changes) (decision_at p o.request o.handled).chosen (forwards o.asked.to o.asked.bytes a.plan.value) x) o.answer_is
+    ∙ ap (λ (x : Option Answer). row_by (length o.handled.changes) (decision_at p o.request o.handled).chosen (forwards o.asked.to o.asked.bytes a.edits) x) o.answer_is
     ∙ ap (λ (n : ℕ). served_row n (decision_at p o.request o.handled).chosen (status_of answer) (fault_of answer) ∷ []) (sym o.asked.front)
     ∙ ap (λ (x : Chosen). served_row a.front x (status_of answer) (fault_of answer) ∷ []) (sym o.asked.chosen) in
-    let text_is : reply_of a.plan.value answer a.head a.last ≡ written_behind p (asks_behind 0 o.front) (part ∷ []) =
-    ap (λ (b : Bool). reply_of a.plan.value answer b a.last) o.asked.head
-    ∙ ap (reply_of a.plan.value answer (is_head o.request)) o.asked.last
+    let text_is : reply_of a.edits answer a.head a.last ≡ written_behind p (asks_behind 0 o.front) (part ∷ []) =
+    ap (λ (b : Bool). reply_of a.edits answer b a.last) o.asked.head
+    ∙ ap (reply_of a.edits answer (is_head o.request)) o.asked.last
     ∙ sym (append-nil _)
-    ∙ ap (λ (x : Option Answer). reply_by (forwards o.asked.to o.asked.bytes a.plan.value) x (is_head o.request) (is_last (asks_behind 0 o.front + 1) o.request) ++ []) (sym o.answer_is)
+    ∙ ap (λ (x : Option Answer). reply_by (forwards o.asked.to o.asked.bytes a.edits) x (is_head o.request) (is_last (asks_behind 0 o.front + 1) o.request) ++ []) (sym o.answer_is)
     ∙ ap (λ (x : Action). reply_by x o.handled.answer (is_head o.request) (is_last (asks_behind 0 o.front + 1) o.request) ++ []) (sym o.asked.action) in
     let whole : IsWhole p part =
     subst (λ (x : Action). IsReplied x o.handled.answer) (sym o.asked.action)
-    (subst (λ (x : Option Answer). IsReplied (forwards o.asked.to o.asked.bytes a.plan.value) x) (sym o.answer_is) tt) in
+    (subst (λ (x : Option Answer). IsReplied (forwards o.asked.to o.asked.bytes a.edits) x) (sym o.answer_is) tt) in
     record {
       door = door ∙ s.door;
       inlet = subst (λ (i : Inlet). InletStandsFor i bytes (map step_of parts)) (sym inlet) s.inlet;
-      serves = subst (λ (st : Stage). Serves st p d.rows parts (text ++ reply_of a.plan.value answer a.head a.last)) (sym reading) (
-        subst (λ (l : List Part). AreServed p d.rows l (text ++ reply_of a.plan.value answer a.head a.last)) (sym o.parts_are)
-            (served_more p c.rows d.rows o.front part text (reply_of a.plan.value answer a.head a.last) o.served (rows ∙ ap (λ (l : List ServedRow). c.rows ++ l) (sym one)) text_is whole),
+      serves = subst (λ (st : Stage). Serves st p d.rows parts (text ++ reply_of a.edits answer a.head a.last)) (sym reading) (
+        subst (λ (l : List Part). AreServed p d.rows l (text ++ reply_of a.edits answer a.head a.last)) (sym o.parts_are)
+            (served_more p c.rows d.rows o.front part text (reply_of a.edits answer a.head a.last) o.served (rows ∙ ap (λ (l : List ServedRow). c.rows ++ l) (sym one)) text_is whole),
         o.unended,
       );
     }

@@ -16,7 +16,7 @@ use Rattle.gw_link.specs.Faults.{HasRisen}
 use Rattle.gw_link.specs.Pieces.{Takes, TakesPart}
 use Rattle.gw_link.specs.declared.order.UpstreamCall.{UpstreamCall}
 use Rattle.gw_text.specs.model.Addresses.{Socket}
-use Rattle.gw_text.specs.model.Plans.{Plan}
+use Rattle.gw_text.specs.model.Filters.{Edits}
 use Rattle.gw_worker.proofs.Deciding.{left_behind, own_fault}
 use Rattle.gw_worker.proofs.Exchanging.{AtMostOne, at_most_one}
 use Rattle.gw_worker.proofs.Counts.{faults_append}
@@ -46,8 +46,8 @@ tells_itself (Some told) = ap Some (sym (append-nil told))
 -- Requests that no backend answered have no exchange.
 none_exchanged : (action : Action) (answer : Option Answer) (head : Bool) → answer ≡ None → ExchangedBy action answer head []
 none_exchanged (replies code location fault) answer head none = (none, refl)
-none_exchanged (forwards to bytes plan) None head none = refl
-none_exchanged (forwards to bytes plan) (Some a) head none = absurd (cc none)
+none_exchanged (forwards to bytes edits) None head none = refl
+none_exchanged (forwards to bytes edits) (Some a) head none = absurd (cc none)
 
 own_exchanged : (p : Place) (parts : List Part) → AreUnanswered parts → Exchanged p parts []
 own_exchanged p [] all = refl
@@ -65,8 +65,8 @@ own_refused refuses p (a_request q h ∷ parts) all = (by (decision_at p q h).ac
   where
     by : (action : Action) (answer : Option Answer) → answer ≡ None → RefusedBy refuses action answer
     by (replies code location fault) answer none = tt
-    by (forwards to bytes plan) None none = tt
-    by (forwards to bytes plan) (Some a) none = absurd (cc none)
+    by (forwards to bytes edits) None none = tt
+    by (forwards to bytes edits) (Some a) none = absurd (cc none)
 own_refused refuses p (a_wait ∷ parts) all = own_refused refuses p parts all
 own_refused refuses p (a_refused code ∷ parts) all = own_refused refuses p parts all
 own_refused refuses p (a_close ∷ parts) all = own_refused refuses p parts all
@@ -78,8 +78,8 @@ own_row : (p : Place) (q : Request) (h : Handled) (action : Action) (answer : Op
 own_row p q h (replies code location fault) answer is none =
     let none_more : ◌≡◌ {A = ℕ} (cond (is_call_fault fault) 1 0) 0 = ap (λ (b : Bool). cond b 1 0) (own_fault (rows_after p h.changes) q h.books code location fault is) in
     omega (arith, none_more)
-own_row p q h (forwards to bytes plan) None is none = refl
-own_row p q h (forwards to bytes plan) (Some a) is none = absurd (cc none)
+own_row p q h (forwards to bytes edits) None is none = refl
+own_row p q h (forwards to bytes edits) (Some a) is none = absurd (cc none)
 
 own_faults : (p : Place) (parts : List Part) → AreUnanswered parts → call_faults (rows_of p parts) ≡ 0
 own_faults p [] all = refl
@@ -134,8 +134,8 @@ took_write refuses p a b c bytes parts text more told told' x f k written = reco
 record Asks (p : Place) (a b : Worker) (parts : List Part) (to : Socket) (sent : List ℕ) (head : Bool) : Type 0 where
   pub request : Request
   pub handled : Handled
-  pub plan : Plan
-  pub action : (decision_at p request handled).action ≡ forwards to sent plan
+  pub edits : List Edits
+  pub action : (decision_at p request handled).action ≡ forwards to sent edits
   pub head_is : head ≡ is_head request
   pub decides : Decides p a b request handled
   pub unanswered : handled.answer ≡ None
@@ -150,7 +150,7 @@ asks_of p a b c bytes parts text to sent head k =
     record {
       request = e.request;
       handled = e.handled;
-      plan = e.plan;
+      edits = e.edits;
       action = e.action;
       head_is = e.head_is;
       decides = subst (λ (w : Worker). Decides p a w e.request e.handled) (sym d.1.1) d.1.0;
@@ -312,7 +312,7 @@ decided_asked p a b more to sent head k =
     }
 
 action_asked : (p : Place) (a b : Worker) (more : List Part) (to : Socket) (sent : List ℕ) (head : Bool) → (k : Asks p a b more to sent head)
-    → (decision_at p k.request (handled_by a b)).action ≡ forwards to sent k.plan
+    → (decision_at p k.request (handled_by a b)).action ≡ forwards to sent k.edits
 action_asked p a b more to sent head k =
     ap (λ (l : List Entry). (decision_of (rows_after p l) k.request a.books).action) (seen_asked p a b more to sent head k)
     ∙ ap (λ (books : Books). (decision_of (rows_after p k.handled.changes) k.request books).action) (sym k.decides.books)
@@ -327,7 +327,7 @@ undone_asked p a b more to sent head met k (inr (e, (n, (is, at, front)))) = rec
   once = inr (record {
     to = to;
     bytes = sent;
-    plan = k.plan;
+    edits = k.edits;
     exchange = e;
     count = n;
     action = action_asked p a b more to sent head k;
@@ -342,7 +342,7 @@ unanswered_row : (p : Place) (a b : Worker) (more : List Part) (to : Socket) (se
 unanswered_row p a b more to sent head k =
     ap (rows_of p) k.parts_are
     ∙ ap (λ (x : Action). row_by (length k.handled.changes) (decision_at p k.request k.handled).chosen x k.handled.answer ++ []) k.action
-    ∙ ap (λ (x : Option Answer). row_by (length k.handled.changes) (decision_at p k.request k.handled).chosen (forwards to sent k.plan) x ++ []) k.unanswered
+    ∙ ap (λ (x : Option Answer). row_by (length k.handled.changes) (decision_at p k.request k.handled).chosen (forwards to sent k.edits) x ++ []) k.unanswered
 
 -- the rows where a backend is asked
 open_rows : (p : Place) (s : Stage) (rows : List ServedRow) (parts : List Part) (text : List ℕ) → IsAsking s → Serves s p rows parts text → rows ≡ rows_of p parts
@@ -355,7 +355,7 @@ open_rows p (Asking a) rows parts text is o =
     none : rows_of p (a_request o.request o.handled ∷ []) ≡ []
     none =
         ap (λ (x : Action). row_by (length o.handled.changes) (decision_at p o.request o.handled).chosen x o.handled.answer ++ []) o.asked.action
-        ∙ ap (λ (x : Option Answer). row_by (length o.handled.changes) (decision_at p o.request o.handled).chosen (forwards o.asked.to o.asked.bytes a.plan.value) x ++ []) o.answer_is
+        ∙ ap (λ (x : Option Answer). row_by (length o.handled.changes) (decision_at p o.request o.handled).chosen (forwards o.asked.to o.asked.bytes a.edits) x ++ []) o.answer_is
 open_rows p (Answered a answer) rows parts text is serves = absurd is
 open_rows p (IsEnded why) rows parts text is serves = absurd is
 

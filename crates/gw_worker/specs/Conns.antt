@@ -17,8 +17,8 @@ use Rattle.gw_worker.specs.model.Sessions.{Answer, Handled, Part, Place, a_reque
 -- A request has its reply: its own, or one for what the backend answered.
 abbrev pub IsReplied : Action → Option Answer → Type 0
 IsReplied (replies code location fault) answer = ⊤
-IsReplied (forwards to bytes plan) None = ⊥
-IsReplied (forwards to bytes plan) (Some a) = ⊤
+IsReplied (forwards to bytes edits) None = ⊥
+IsReplied (forwards to bytes edits) (Some a) = ⊤
 
 abbrev pub IsWhole : Place → Part → Type 0
 IsWhole p (a_request q h) = IsReplied (decision_at p q h).action h.answer
@@ -42,7 +42,7 @@ pub record AreServed (p : Place) (rows : List ServedRow) (parts : List Part) (te
 pub record IsAsked (p : Place) (a : Asked) (number : ℕ) (q : Request) (h : Handled) : Type 0 where
   pub to : Socket
   pub bytes : List ℕ
-  pub action : (decision_at p q h).action ≡ forwards to bytes a.plan.value
+  pub action : (decision_at p q h).action ≡ forwards to bytes a.edits
   pub chosen : a.chosen ≡ (decision_at p q h).chosen
   pub front : a.front ≡ length h.changes
   pub head : a.head ≡ is_head q

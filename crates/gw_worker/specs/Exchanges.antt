@@ -30,8 +30,8 @@ IsExchanged to bytes head result met = (e : Exchange) × ((met ≡ e ∷ []) × 
 -- What was exchanged for what is done about a request. One that goes to no backend has no answer of a backend.
 abbrev pub ExchangedBy : Action → Option Answer → Bool → List Exchange → Type 0
 ExchangedBy (replies code location fault) answer head met = (answer ≡ None) × (met ≡ [])
-ExchangedBy (forwards to bytes plan) None head met = met ≡ []
-ExchangedBy (forwards to bytes plan) (Some a) head met = IsExchanged to bytes head (as_given a) met
+ExchangedBy (forwards to bytes edits) None head met = met ≡ []
+ExchangedBy (forwards to bytes edits) (Some a) head met = IsExchanged to bytes head (as_given a) met
 
 -- What was exchanged for one thing that came of a connection's bytes.
 abbrev pub PartExchanged : Place → Part → List Exchange → Type 0
@@ -50,8 +50,8 @@ Exchanged p (part ∷ parts) met =
 -- Where a backend's answer is a call that failed, that call failed at the backend's socket.
 abbrev pub RefusedBy : (UpstreamCall → Socket → Type 0) → Action → Option Answer → Type 0
 RefusedBy refuses (replies code location fault) answer = ⊤
-RefusedBy refuses (forwards to bytes plan) None = ⊤
-RefusedBy refuses (forwards to bytes plan) (Some a) = IsRefused refuses to (as_given a)
+RefusedBy refuses (forwards to bytes edits) None = ⊤
+RefusedBy refuses (forwards to bytes edits) (Some a) = IsRefused refuses to (as_given a)
 
 -- The same of each request.
 abbrev pub AreRefused : (UpstreamCall → Socket → Type 0) → Place → List Part → Type 0

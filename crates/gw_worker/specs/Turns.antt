@@ -5,7 +5,7 @@ use Rattle.gw_answers.specs.model.Messages.{is_head}
 use Rattle.gw_frames.specs.Inlets.{StandsFor as InletStandsFor, is_over}
 use Rattle.gw_frames.specs.model.Requests.{Request, Step, ended}
 use Rattle.gw_text.specs.model.Addresses.{Socket}
-use Rattle.gw_text.specs.model.Plans.{Plan}
+use Rattle.gw_text.specs.model.Filters.{Edits}
 use Rattle.gw_worker.specs.Conns.{IsAllOf, IsAsking, IsSettled, StandsFor}
 use Rattle.gw_worker.specs.Workers.{Decided, IsLeftOpen}
 use Rattle.gw_worker.specs.declared.conn.Conn.{Conn}
@@ -36,9 +36,9 @@ AreUnanswered (a_cut ∷ parts) = AreUnanswered parts
 pub record IsExchange (p : Place) (more : List Part) (to : Socket) (bytes : List ℕ) (head : Bool) : Type 0 where
   pub request : Request
   pub handled : Handled
-  pub plan : Plan
+  pub edits : List Edits
   pub more_is : more ≡ a_request request handled ∷ []
-  pub action : (decision_at p request handled).action ≡ forwards to bytes plan
+  pub action : (decision_at p request handled).action ≡ forwards to bytes edits
   pub head_is : head ≡ is_head request
 
 -- What a turn says: where more bytes are needed, and at the end, what came is all that the bytes give.

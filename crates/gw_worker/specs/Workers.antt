@@ -6,7 +6,7 @@ use Rattle.gw_frames.specs.model.Requests.{Request, Step, a_break, a_continue, a
 use Rattle.gw_link.specs.Exchanges.{Exchange}
 use Rattle.gw_snap.specs.Lists.{BeginsWith}
 use Rattle.gw_text.specs.model.Addresses.{Socket}
-use Rattle.gw_text.specs.model.Plans.{Plan}
+use Rattle.gw_text.specs.model.Filters.{Edits}
 use Rattle.gw_worker.specs.model.Workers.{Worker}
 use Rattle.gw_worker.specs.model.Sessions.{Handled, Part, Place, a_close, a_cut, a_refused, a_request, a_wait, books_at, decision_at}
 
@@ -47,10 +47,10 @@ pub record IsLeftBy (p : Place) (before after : Worker) (q : Request) : Type 0 w
 pub record IsSent (p : Place) (before after : Worker) (q : Request) (met : List Exchange) : Type 0 where
   pub to : Socket
   pub bytes : List ℕ
-  pub plan : Plan
+  pub edits : List Edits
   pub exchange : Exchange
   pub count : ℕ
-  pub action : (decision_at p q (handled_by before after)).action ≡ forwards to bytes plan
+  pub action : (decision_at p q (handled_by before after)).action ≡ forwards to bytes edits
   pub counted : after.books ≡ books_at p q (handled_by before after)
   pub met_is : met ≡ exchange ∷ []
   pub at : exchange.to ≡ to

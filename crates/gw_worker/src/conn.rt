@@ -18,16 +18,15 @@ ghost use Rattle.gw_answers.specs.model.ServedRows as plain;
 
 use crate::worker::Worker;
 use gw_answers::{
-    Action, Chosen, Decision, Reply, ServedRow, fault_of, is_head, status_of, write_answer,
+    Action, Chosen, Decision, Reply, ResponseEdits, ServedRow, fault_of, is_head, status_of,
+    write_answer,
 };
 use gw_frames::{Ended, Inlet, Request, Step, end_behind};
 use gw_replies::{BackendFault, Response, write_own};
-use gw_rows::Plan;
 use gw_snap::OpenFault;
 use gw_text::{List, NoMemory, Socket, Text};
 use std::alloc::Global;
 use std::mem;
-use std::sync::Arc;
 
 const CONTINUE: &[u8] = b"HTTP/1.1 100 Continue\r\n\r\n";
 
@@ -63,7 +62,7 @@ pub(crate) struct Asked {
     /// By how many changes it was decided.
     pub(crate) front: u64,
     pub(crate) chosen: Chosen,
-    pub(crate) plan: Arc<Plan>,
+    pub(crate) edits: ResponseEdits,
     /// Whether its method is HEAD.
     pub(crate) head: bool,
     /// Whether the connection ends behind it.
@@ -345,7 +344,7 @@ impl Conn {
                 self.stage = Stage::Asking(Asked {
                     front,
                     chosen,
-                    plan: forward.plan,
+                    edits: forward.edits,
                     head,
                     last,
                 });
@@ -379,14 +378,14 @@ impl Conn {
         asked: Asked,
         answer: Result<Response, BackendFault>,
     ) -> Result<Turn, NoMemory>
-        ensures text { IfOk result (λ turn. turn ≡ Turn.Write (reply_of asked.plan.value answer asked.head asked.last)) }
+        ensures text { IfOk result (λ turn. turn ≡ Turn.Write (reply_of asked.edits answer asked.head asked.last)) }
         ensures rows { OnOk result (self.new ≡ record self.old {
           rows = self.old.rows ++ plain.served_row asked.front asked.chosen (plain.status_of answer) (plain.fault_of answer) ∷ [];
         }) }
         ensures err { OnErr result (self.new ≡ self.old) }
     {
         let (status, fault) = (status_of(&answer), fault_of(&answer));
-        let text = write_answer(self.alloc, &asked.plan, answer, asked.head, asked.last)?;
+        let text = write_answer(self.alloc, &asked.edits, answer, asked.head, asked.last)?;
         self.rows
             .push(ServedRow::new(asked.front, asked.chosen, status, fault))?;
         Ok(Turn::Write(text))

@@ -51,14 +51,14 @@ books_at p q h = books_after (rows_after p h.changes) q h.books
 -- The row of a request; one that a backend hasn't answered has none yet.
 abbrev pub row_by : ℕ → Chosen → Action → Option Answer → List ServedRow
 row_by front chosen (replies code location fault) answer = served_row front chosen code fault ∷ []
-row_by front chosen (forwards to bytes plan) None = []
-row_by front chosen (forwards to bytes plan) (Some a) = served_row front chosen (status_of a) (fault_of a) ∷ []
+row_by front chosen (forwards to bytes edits) None = []
+row_by front chosen (forwards to bytes edits) (Some a) = served_row front chosen (status_of a) (fault_of a) ∷ []
 
 -- The bytes of its reply: this program's own, or what the backend answered. The last one of the connection says so.
 abbrev pub reply_by : Action → Option Answer → Bool → Bool → List ℕ
 reply_by (replies code location fault) answer head last = own code location fault last
-reply_by (forwards to bytes plan) None head last = []
-reply_by (forwards to bytes plan) (Some a) head last = reply_of plan a head last
+reply_by (forwards to bytes edits) None head last = []
+reply_by (forwards to bytes edits) (Some a) head last = reply_of edits a head last
 
 -- The connection ends behind the request of this number: it asks for that, or is the 1,000th. Source: RFC 9112 section 9.6.
 abbrev pub is_last : ℕ → Request → Bool
