@@ -6,4 +6,4 @@ use Rattle.gw_route.proofs.edits.request_edits_in.Given as goal
 
 abbrev pub invariant-filters : goal.invariant-filters
 invariant-filters l =
-    request_edits_in (map seen_filter (drop l.filter-index l.filter-items)) ≡ request_edits_in (map seen_filter l.filter-items)
+    request_edits_in (map seen_filter (drop l.filter-index l.filters)) ≡ request_edits_in (map seen_filter l.filters)

@@ -6,4 +6,4 @@ use Rattle.gw_route.proofs.edits.response_edits_in.Given as goal
 
 abbrev pub invariant-filters : goal.invariant-filters
 invariant-filters l =
-    response_edits_in (map seen_filter (drop l.filter-index l.filter-items)) ≡ response_edits_in (map seen_filter l.filter-items)
+    response_edits_in (map seen_filter (drop l.filter-index l.filters)) ≡ response_edits_in (map seen_filter l.filters)
