@@ -68,6 +68,7 @@ pub fn run<
     ensures generated { (set : SetToGenerate (map string_bytes words.now)) → (result ≡ exit_code Fault.NoMemory)
         ⊎ Generates result set.generation (C.moments clock) (K.written sink.old) (K.written sink.new) (K.faults sink.old) (K.faults sink.new) }
     ensures no_input { SetToGenerate (map string_bytes words.now) → source.new ≡ source.old }
+    ensures no_served_input { SetToServe (map string_bytes words.now) → source.new ≡ source.old }
 
     // Words that are no command's, and doors that break a rule, end the run by this fault or for want of memory, and
     // leave the source as it was.

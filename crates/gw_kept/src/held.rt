@@ -276,6 +276,7 @@ impl KeptRoutes {
         requires { self.now.kept ≡ kept_routes_of self.now.controller world.now.world }
         ensures status { IfOk result (λ status. status ≡ gateway_status_at doors.now self.now.controller world.now.world key.now) }
         ensures steps { OnOk result (steps.new ≡ steps.old + 1) }
+        ensures most { steps.new ≤ steps.old + 1 }
     {
         let numbers = numbers_of(alloc, &self.counts, world, key)?;
         let attached = numbers.as_slice();
