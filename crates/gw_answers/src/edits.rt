@@ -56,7 +56,7 @@ impl ResponseEdits {
 
 // The fields after the edits, if there are some.
 fn edit_if(alloc: Global, fields: Fields, edits: Option<&Edits>) -> Result<Fields, NoMemory>
-    ensures { IfOk result (λ all. all ≡ rules.edited_by (option_to_list (option_copied edits)) fields) }
+    ensures { IfOk result (λ all. all ≡ rules.edited_by (option_to_list (option_copied edits.entry)) fields) }
 {
     match edits {
         Some(edits) => edit(alloc, &fields, edits),
@@ -70,7 +70,7 @@ pub(crate) fn edit_by(
     fields: Fields,
     both: (Option<&Edits>, Option<&Edits>),
 ) -> Result<Fields, NoMemory>
-    ensures { IfOk result (λ all. all ≡ rules.edited_by (option_to_list (option_copied both.0) ++ option_to_list (option_copied both.1)) fields) }
+    ensures { IfOk result (λ all. all ≡ rules.edited_by (option_to_list (option_copied both.entry.0) ++ option_to_list (option_copied both.entry.1)) fields) }
 {
     let once = edit_if(alloc, fields, both.0)?;
     edit_if(alloc, once, both.1)

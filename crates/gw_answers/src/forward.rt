@@ -60,7 +60,7 @@ fn write_to(
     request: &Request,
 ) -> Result<Text, NoMemory>
     ensures { IfOk result (λ text. text ≡ forward request.now.method target.now host.now request.now.minor
-        (rules.edited_by (option_to_list (option_copied both.0) ++ option_to_list (option_copied both.1)) (passed_on request.now.fields)) request.now.body request.now.framed) }
+        (rules.edited_by (option_to_list (option_copied both.entry.0) ++ option_to_list (option_copied both.entry.1)) (passed_on request.now.fields)) request.now.body request.now.framed) }
 {
     match both {
         (None, None) => write_unedited_forward(

@@ -56,7 +56,7 @@ fn write_response(
     close: bool,
 ) -> Result<Text, NoMemory>
     ensures { IfOk result (λ text. text ≡ reply
-        (rules.edited_response (option_to_list (option_copied both.0) ++ option_to_list (option_copied both.1)) response) head close) }
+        (rules.edited_response (option_to_list (option_copied both.entry.0) ++ option_to_list (option_copied both.entry.1)) response) head close) }
 {
     if both.0.is_none() && both.1.is_none() {
         return write_unedited_reply(alloc, &response, head, close);

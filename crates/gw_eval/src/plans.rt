@@ -16,7 +16,7 @@ use std::alloc::Global;
 
 // The same edits, or none.
 fn edits(alloc: Global, given: Option<&Edits>) -> Result<Edits, NoMemory>
-    ensures { IfOk result (λ edits. edits ≡ unwrap_or (option_copied given) no_edits) }
+    ensures { IfOk result (λ edits. edits ≡ unwrap_or (option_copied given.entry) no_edits) }
 {
     match given {
         Some(edits) => copy_edits(alloc, edits),
