@@ -161,9 +161,9 @@ fn by_state(
 ) -> Result<Decision, NoMemory>
     requires fits { IsTrue (path_fits row.now.test.path request.now.path) }
     requires place { slice_get row.now.plan.backends drawn.place ≡ Some drawn.backend.now }
-    ensures value { IfOk result (λ d. d ≡ rules.by_state chosen row.now request.now books.old drawn.backend.now drawn.backend.now.state) }
-    ensures after { OnOk result (books.new ≡ rules.after_endpoint books.old drawn.backend.now drawn.backend.now.state) }
-    ensures err { OnErr result (AreLeft books.old (rules.after_endpoint books.old drawn.backend.now drawn.backend.now.state) books.new) }
+    ensures value { IfOk result (λ d. d ≡ rules.by_state chosen row.now request.now books.old drawn.entry.backend.now drawn.entry.backend.now.state) }
+    ensures after { OnOk result (books.new ≡ rules.after_endpoint books.old drawn.entry.backend.now drawn.entry.backend.now.state) }
+    ensures err { OnErr result (AreLeft books.old (rules.after_endpoint books.old drawn.entry.backend.now drawn.entry.backend.now.state) books.new) }
 {
     let backend = drawn.backend;
     let (code, fault) = match &backend.state {
@@ -191,7 +191,7 @@ fn by_endpoint(
 ) -> Result<Decision, NoMemory>
     requires fits { IsTrue (path_fits row.now.test.path request.now.path) }
     requires place { slice_get row.now.plan.backends drawn.place ≡ Some drawn.backend.now }
-    ensures { IfOk result (λ d. d ≡ rules.by_endpoint chosen row.now request.now drawn.backend.now picked) }
+    ensures { IfOk result (λ d. d ≡ rules.by_endpoint chosen row.now request.now drawn.entry.backend.now picked) }
 {
     let Some(to) = picked else {
         return Ok(replied(chosen, 503, Some(FaultName::NoEndpoints)));

@@ -32,8 +32,8 @@ impl Model for ResponseEdits {
 impl ResponseEdits {
     /// Those of this rule, and of the backendRef that was drawn of it.
     pub(crate) fn of(plan: &Arc<Plan>, drawn: &Drawn<'_>) -> Result<Self, NoMemory>
-        requires { slice_get plan.now.value.backends drawn.place ≡ Some drawn.backend.now }
-        ensures { IfOk result (λ edits. edits ≡ rules.response_edits_of plan.now.value drawn.backend.now) }
+        requires { slice_get plan.now.value.backends drawn.now.place ≡ Some drawn.now.backend.now }
+        ensures { IfOk result (λ edits. edits ≡ rules.response_edits_of plan.now.value drawn.now.backend.now) }
     {
         Ok(ResponseEdits {
             plan: plan.clone()?,
