@@ -7,7 +7,7 @@ import subprocess
 import threading
 import time
 
-from support.checking import HEALTH, HEALTHY, HOST, SOON, Check, closing, gone, post, refused, reply, route_to
+from support.checking import HEALTH, HEALTHY, HOST, SOON, Check, closing, gone, long, post, refused, reply, route_to
 from support.inputs import gateway_object, head, line, service
 from support.program import PROGRAM, TOP, environment
 from support.scripted import objects_of, pieces_of
@@ -269,6 +269,85 @@ class AtOnce(Check):
                     wrong.append((front, routes, last))
                 last = front
             count += 1
+
+
+LAST = get(HOST, "/healthz", close=True)
+
+
+class Idle(Check):
+    """Clients who say nothing, or little, hold nobody up."""
+    WAITING, MOST_WAITING = 60, 64
+
+    def seconds(self, port):
+        """Within how many seconds a new client has its reply."""
+        begin = time.monotonic()
+        with talk(port) as client:
+            self.answers(client, LAST, closing(HEALTHY))
+        return time.monotonic() - begin
+
+    def beside_idle(self, count):
+        """So many are answered, each within 100 milliseconds: but for one who comes while the slow client has its two seconds, and few for whom the
+        machine was late."""
+        with gateward() as serving, contextlib.ExitStack() as stack:
+            waiting = [stack.enter_context(talk(serving.admin)) for _ in range(self.WAITING)]
+            slow, over = stack.enter_context(talk(serving.admin)), threading.Event()
+            sender = threading.Thread(target=self.drip, args=(slow, 1, over))
+            sender.start()
+            time.sleep(0.1)
+            took = [self.seconds(serving.admin) for _ in range(count)]
+            over.set()
+            sender.join()
+            late = sorted(one for one in took if one > 0.1)
+            self.assertLess(sum(late), 3, late)
+            self.assertLessEqual(len(late), 1 + count // 100, late)
+            self.ends(slow)
+            for client in waiting:
+                self.answers(client, LAST, closing(HEALTHY))
+
+    def drip(self, client, pause, over):
+        """Sends a byte after each pause, until its connection has ended."""
+        for at in range(len(HEALTH)):
+            with contextlib.suppress(OSError):
+                client.send(HEALTH[at:at + 1])
+            if over.wait(pause):
+                return
+
+    def test_idle_clients_hold_nobody_up(self):
+        self.beside_idle(100)
+
+    @long
+    def test_idle_clients_hold_nobody_up_for_long(self):
+        self.beside_idle(1000)
+
+    def test_a_client_that_is_done(self):
+        with gateward() as serving, talk(serving.admin) as done:
+            self.answers(done, HEALTH, HEALTHY)
+            took = self.seconds(serving.admin)
+            self.assertTrue(0.5 < took < 2, took)
+            self.ends(done)
+
+    def test_a_client_that_is_slow(self):
+        with gateward() as serving, talk(serving.admin) as slow:
+            over = threading.Event()
+            sender = threading.Thread(target=self.drip, args=(slow, 0.2, over))
+            sender.start()
+            time.sleep(0.1)
+            took = self.seconds(serving.admin)
+            over.set()
+            sender.join()
+            self.assertTrue(1 < took < 3, took)
+
+    def test_a_client_too_many(self):
+        with gateward() as serving, contextlib.ExitStack() as stack:
+            first, *others = [stack.enter_context(talk(serving.admin)) for _ in range(self.MOST_WAITING)]
+            time.sleep(0.1)
+            first.connection.settimeout(0.1)
+            with self.assertRaises(TimeoutError):
+                first.more()
+            last = stack.enter_context(talk(serving.admin))
+            self.ends(first)
+            for client in others + [last]:
+                self.answers(client, LAST, closing(HEALTHY))
 
 
 class Descriptors(Check):

@@ -185,16 +185,6 @@ class Silent(Check):
                 self.ends_in_time(client, begin, before)
             self.is_served(serving)
 
-    @long
-    def test_the_admin_endpoint_gives_a_silent_client_up(self):
-        with gateward() as serving, talk(serving.admin) as silent, talk(serving.admin) as other:
-            begin = time.monotonic()
-            other.send(get(HOST, "/healthz", close=True))
-            other.connection.settimeout(60)
-            self.assertEqual(other.message().code(), 200)
-            self.assertTrue(SILENT[0] < time.monotonic() - begin < SILENT[1], time.monotonic() - begin)
-            self.ends(silent)
-
     def test_silent_clients_hold_nobody_up(self):
         """With `--polled` one worker serves others beside 100 clients who are silent at each stage of a request."""
         with served(options=["--polled"]) as serving, contextlib.ExitStack() as stack:

@@ -53,7 +53,8 @@ struct told {
 
 struct record {
   struct told told;
-  long open; /* how many descriptors were made and not closed */
+  long open;    /* how many descriptors were made and not closed */
+  long waiting; /* how many accepts there were at a socket whose calls wait */
   long counts[COUNT];
 };
 
@@ -237,6 +238,8 @@ int listen(int descriptor, int backlog) {
 
 int accept4(int descriptor, struct sockaddr *address, socklen_t *size, int flags) {
   NEXT(accept4);
+  int waits = !(syscall(SYS_fcntl, descriptor, F_GETFL) & O_NONBLOCK);
+  if (record) __atomic_add_fetch(&record->waiting, waits, __ATOMIC_SEQ_CST);
   return fails_at(at_accept4, descriptor, -1) ? -1 : made(next(descriptor, address, size, flags));
 }
 

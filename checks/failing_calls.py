@@ -56,17 +56,28 @@ def outcomes_of(row, failure, run):
     return {0: (rows.AS_EVER,), 1: row.outcomes}.get(run.told.has_bytes, row.outcomes + (rows.AS_EVER,))
 
 
+def has_pause(scenario, failure, run, place):
+    """Whether an accept failed at an acceptor that pauses then, so that who tries again takes no processor for himself. That of the admin endpoint
+    fails too where a wait does or no more sockets can be waited for. A polled worker pauses in its wait."""
+    if failure.function == "accept4":
+        return failure.way != "EINTR" and (scenario.command == rows.CALLED or place == rows.ADMIN_LISTENER)
+    if failure.function == "epoll_ctl":
+        return run.told.own_port == run.ports["admin"]
+    return failure.function == "epoll_wait" and failure.way == "EINVAL" and place == rows.ADMIN_SET
+
+
 def miscounted(scenario, failure, run, place):
     """What is wrong with the counts of a run that ended in 0: each descriptor is closed, a job ends after so many accepts, failed ones included, and
-    there is one pause, behind an accept that failed, so that who tries again takes no processor for himself. A polled worker pauses in its wait."""
+    there is a pause where one is needed. The acceptor of the admin endpoint also asks where no connection comes, and where one wait failed it has
+    one connection fewer."""
     if run.counts["open"]:
         return "%d descriptors aren't closed" % run.counts["open"]
-    is_accept, is_again = failure.function == "accept4", failure.way == "EINTR"
-    accepts = run.counts["accept4"] - (is_accept and is_again)
-    if scenario.command == rows.CALLED and accepts != 2 * CONNS:
-        return "%d accepts" % accepts
-    has_pause = is_accept and not is_again and (scenario.command == rows.CALLED or place == rows.ADMIN_LISTENER)
-    return None if run.counts["nanosleep"] == has_pause else "%d pauses" % run.counts["nanosleep"]
+    is_again = failure.function == "accept4" and failure.way == "EINTR" and place == rows.DOOR_LISTENER
+    at_door, at_admin = run.counts["waiting"] - is_again, run.counts["accept4"] - run.counts["waiting"]
+    if scenario.command == rows.CALLED and (at_door != CONNS or at_admin < CONNS - (failure.function == "epoll_wait")):
+        return "%d accepts at the door, and %d at the admin endpoint" % (at_door, at_admin)
+    pauses, wanted = run.counts["nanosleep"], has_pause(scenario, failure, run, place)
+    return None if pauses == wanted else "%d pauses" % pauses
 
 
 def fault_of(scenario, failure, run, place):
@@ -177,7 +188,7 @@ class Counted(Check):
         with library() as built, built.run_of(failure) as (variables, record), bounded(words, variables) as process:
             self.assertEqual(process.stdout.readline(), READY)
             self.assertTrue(becomes(lambda: record.told().has_failed))
-            is_admin = record.told().own_port == ports[0]
+            is_admin = record.told().thread == 1
             with talk(ports[1] if is_admin else ports[0]):
                 pass
             self.exits(process, 0)
@@ -187,8 +198,10 @@ class Counted(Check):
         for number in (1, 2):
             self.is_counted(options, Failure("accept4", number, rows.number_of("EMFILE")))
 
-    def test_a_wait_that_failed(self):
-        self.is_counted(["--polled"], Failure("epoll_wait", 1, rows.number_of("EINVAL")))
+    @each_form
+    def test_a_wait_that_failed(self, options):
+        for number in (1, 2):
+            self.is_counted(options, Failure("epoll_wait", number, rows.number_of("EINVAL")))
 
 
 def print_results(results):

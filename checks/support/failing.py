@@ -19,7 +19,7 @@ def functions():
 
 
 FUNCTIONS = functions()
-COUNTS = struct.Struct("%dq" % (1 + len(FUNCTIONS)))
+COUNTS = struct.Struct("%dq" % (2 + len(FUNCTIONS)))
 
 
 @dataclass(frozen=True)
@@ -50,10 +50,11 @@ class Record:
     path: str
 
     def counts(self):
-        """How many calls of each function the run made; under `open`, how many descriptors were made and not closed."""
+        """How many calls of each function the run made; under `open`, how many descriptors were made and not closed; and under `waiting`, how many
+        accepts there were at a socket whose calls wait."""
         with open(self.path, "rb") as file:
             file.seek(TOLD.size)
-            return dict(zip(["open"] + FUNCTIONS, COUNTS.unpack(file.read(COUNTS.size))))
+            return dict(zip(["open", "waiting"] + FUNCTIONS, COUNTS.unpack(file.read(COUNTS.size))))
 
     def told(self):
         with open(self.path, "rb") as file:

@@ -32,7 +32,7 @@ ADMIN_LISTENER, DOOR_LISTENER = "the admin endpoint's listening socket", "the do
 ADMIN, CLIENT, BACKEND = "a connection of the admin endpoint", "a client's connection", "a connection with the backend"
 UNREACHED = "a connection with a backend that isn't there"
 ENDING, UNASKED = "a connection that is shut down", "a connection on which nothing is asked"
-SET = "what a worker waits for"
+SET, ADMIN_SET = "what a worker waits for", "what the admin endpoint waits for"
 CREW, ADMIN_JOB, WORKER = "the first thread, when it is ready", "the admin endpoint's job", "the worker's job"
 INPUT, OUTPUT, WITHIN = "standard input", "standard output", "the command"
 
@@ -66,8 +66,8 @@ ROWS = [
     row("setsockopt ioctl", START, "EINVAL", NOT_BOUND),
     row("bind", START, "EADDRINUSE EACCES", NOT_BOUND),
     row("listen", START, "EADDRINUSE", NOT_BOUND),
-    row("fcntl epoll_create1", START, "EMFILE", NOT_BOUND, commands=(POLLED,)),
-    row("epoll_ctl", START, "ENOSPC", NOT_BOUND, commands=(POLLED,)),
+    row("fcntl epoll_create1", START, "EMFILE", NOT_BOUND),
+    row("epoll_ctl", START, "ENOSPC", NOT_BOUND),
     row("malloc realloc", START, "ENOMEM", NO_MEMORY),
     # That it is ready is written, and then its jobs are started.
     row("write", OUTPUT, "EIO ENOSPC EPIPE none", WRITE_FAILED),
@@ -77,9 +77,11 @@ ROWS = [
     # An accept that fails is no reason to stop: the connection that waits is taken by the next one.
     row("accept4", ADMIN_LISTENER, "EMFILE ECONNABORTED EINTR", AS_EVER),
     row("accept4", DOOR_LISTENER, "EMFILE ECONNABORTED EINTR", AS_EVER),
+    row("epoll_wait", ADMIN_SET, "EINTR EINVAL none", AS_EVER),
     row("epoll_wait", SET, "EINTR EINVAL none", AS_EVER, commands=(POLLED,)),
     # The admin endpoint.
     row("setsockopt", ADMIN, "EINVAL", CHANGES_GIVEN_UP, STATUS_GIVEN_UP),
+    row("epoll_ctl", ADMIN, "ENOSPC", CHANGES_GIVEN_UP, STATUS_GIVEN_UP),
     row("recv", ADMIN, "ECONNRESET EAGAIN", CHANGES_GIVEN_UP, STATUS_GIVEN_UP),
     row("send", ADMIN, "ECONNRESET EPIPE EAGAIN none", CHANGES_GIVEN_UP, STATUS_GIVEN_UP),
     row("recv send", ADMIN, "EINTR one half", AS_EVER),
@@ -122,9 +124,10 @@ ROWS = [
     row("recv", ENDING, "ECONNRESET EAGAIN EINTR one half", AS_EVER),
     row("recv", UNASKED, "ECONNRESET EAGAIN EINTR one half", AS_EVER),
     row("epoll_ctl", ENDING, "ENOSPC", AS_EVER, commands=(POLLED,)),
-    row("epoll_ctl", UNASKED, "ENOSPC", AS_EVER, commands=(POLLED,)),
+    row("epoll_ctl", UNASKED, "ENOSPC", AS_EVER),
     # A descriptor that can't be closed properly.
-    *(row("close", place, "EIO EINTR", AS_EVER) for place in (START, ADMIN_LISTENER, DOOR_LISTENER, CLIENT, BACKEND, ENDING, UNASKED, SET)),
+    *(row("close", place, "EIO EINTR", AS_EVER) for place in (START, ADMIN_LISTENER, DOOR_LISTENER, CLIENT, BACKEND, ENDING, UNASKED, SET,
+                                                            ADMIN_SET)),
     # The commands that read and write.
     row("read", INPUT, "EIO EAGAIN", READ_FAILED, commands=READERS),
     row("read", INPUT, "EINTR one half", AS_EVER, commands=READERS),

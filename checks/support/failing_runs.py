@@ -282,7 +282,7 @@ class Serves:
 
     def place_of_socket(self, told, run):
         if told.own_port < 0:
-            return rows.SET
+            return rows.ADMIN_SET if told.thread == 1 else rows.SET
         if told.own_port not in run.ports.values():
             return rows.BACKEND if self.scenario.is_reached else rows.UNREACHED
         is_admin = told.own_port == run.ports["admin"]

@@ -437,6 +437,22 @@ def random_at_admin(place):
     return acts
 
 
+def idle_at_admin(place):
+    """Clients of the admin endpoint who send nothing; beside them others are answered at once."""
+    acts, port = [], place.serving.admin
+    with contextlib.ExitStack() as stack:
+        for _ in range(60):
+            stack.enter_context(talk(port))
+        for _ in range(place.of(1000, 100)):
+            begin = time.monotonic()
+            with talk(port) as client:
+                client.send(get(BEHAVED, "/healthz", "", True))
+                ended = answer_and_end(client)
+            took = time.monotonic() - begin
+            acts.append(Act(ended if took < 0.1 else ended + ", late", "200, Asked", took))
+    return acts
+
+
 def admin_course(port, data):
     """How a connection with the admin endpoint ended, and how it has to, by a second evaluation of where its requests end."""
     found = steps(data, True)

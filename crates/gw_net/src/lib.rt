@@ -2,6 +2,7 @@
 // sockets, so nothing is proved of what comes and goes. No peer can hold a call for ever: it is given up after a time, or never waits.
 #![tactic(auto)]
 
+mod arrivals;
 mod endings;
 mod fault_count;
 mod loop_edge;
@@ -17,6 +18,7 @@ mod tcp_link;
 mod tcp_upstream;
 mod thread_crew;
 mod wait_count;
+mod waits;
 mod wall_clock;
 mod watch;
 

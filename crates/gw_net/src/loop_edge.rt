@@ -1,6 +1,7 @@
 ghost use Rattle.std.specs.Prelude.{◌≡◌, None, IfOk, OnOk, vec_len};
 ghost use Rattle.gw_net.specs.Real.{SocketState, UpstreamState, after_call, after_edge_call};
 
+use crate::arrivals::Arrivals;
 use crate::fault_count::FaultCount;
 use crate::mio_ring::MioRing;
 use crate::streams::address;
@@ -17,10 +18,12 @@ use std::net::{Net, TcpListener, TcpStream};
 use std::rt::Clock;
 use std::sync::Arc;
 
-/// Binds sockets of the loopback network, 127.0.0.0/8, and no others. Its upstreams reach backends anywhere.
+/// Binds sockets of the loopback network, 127.0.0.0/8, and no others. Its upstreams reach backends anywhere. What `bind` binds first is
+/// the admin endpoint's, whose one worker serves each client: there a connection is given when bytes of it are there, and is brief.
 #[derive(Drop)]
 pub struct LoopEdge<R: Net + Clock + Clone + Drop> {
     rt: R,
+    has_bound: bool,
     faults: FaultCount,
 }
 
@@ -39,6 +42,7 @@ impl<R: Net<Listener = TcpListener, Stream = TcpStream> + Clock + Clone + Drop> 
     {
         LoopEdge {
             rt,
+            has_bound: false,
             faults: FaultCount::new(),
         }
     }
@@ -89,6 +93,58 @@ fn acceptors_of<R: Clock + Clone + Drop>(
     Ok(acceptors)
 }
 
+// So many acceptors of brief connections, each with a handle on the listener of its own.
+fn brief_acceptors_of<R: Net + Clock + Clone + Drop>(
+    alloc: Global,
+    rt: &R,
+    listener: TcpListener,
+    places: usize,
+) -> Result<Vec<TcpAcceptor<R>>, EdgeFault>
+    ensures { IfOk result (λ acceptors. vec_len acceptors ≡ places) }
+{
+    let mut acceptors = Vec::with_capacity(alloc, places)?;
+    'places: for _place in 0..places {
+        let Ok(own) = listener.try_clone() else {
+            return Err(EdgeFault::Failed);
+        };
+        let arrivals = Arrivals::new(alloc, rt, own)?;
+        acceptors.push_reserved(TcpAcceptor::brief(arrivals, rt.clone()?));
+    }
+    Ok(acceptors)
+}
+
+// Binds the socket, and gives so many acceptors of brief connections.
+fn bind_brief<R: Net + Clock + Clone + Drop>(
+    alloc: Global,
+    rt: &R,
+    at: Socket,
+    places: usize,
+) -> Result<Vec<TcpAcceptor<R>>, EdgeFault>
+    ensures places { IfOk result (λ acceptors. vec_len acceptors ≡ places) }
+    ensures loopback { OnOk result (at.a ≡ 127) }
+{
+    match listen(rt, at) {
+        Ok(listener) => brief_acceptors_of(alloc, rt, listener, places),
+        Err(_) => Err(EdgeFault::Failed),
+    }
+}
+
+// Binds the socket, and gives so many acceptors of all connections.
+fn bind_all<R: Net + Clock + Clone + Drop>(
+    alloc: Global,
+    rt: &R,
+    at: Socket,
+    places: usize,
+) -> Result<Vec<TcpAcceptor<R>>, EdgeFault>
+    ensures places { IfOk result (λ acceptors. vec_len acceptors ≡ places) }
+    ensures loopback { OnOk result (at.a ≡ 127) }
+{
+    match listen_and_wait(rt, at) {
+        Ok(listener) => Ok(acceptors_of(alloc, rt, listener, places)?),
+        Err(_) => Err(EdgeFault::Failed),
+    }
+}
+
 impl<R: Net<Listener = TcpListener, Stream = TcpStream> + Clock + Clone + Drop> Edge
     for LoopEdge<R> {
     type Accept = TcpAcceptor<R>;
@@ -107,9 +163,15 @@ impl<R: Net<Listener = TcpListener, Stream = TcpStream> + Clock + Clone + Drop> 
         ensures loopback { OnOk result (at.a ≡ 127) }
         ensures counted { self.new.faults ≡ after_edge_call result self.old.faults }
     {
-        match listen_and_wait(&self.rt, at) {
-            Ok(listener) => Ok(acceptors_of(alloc, &self.rt, listener, places)?),
-            Err(_) => Err(self.faults.fail().into()),
+        let bound = if self.has_bound {
+            bind_all(alloc, &self.rt, at, places)
+        } else {
+            bind_brief(alloc, &self.rt, at, places)
+        };
+        self.has_bound = true;
+        match bound {
+            Err(EdgeFault::Failed) => Err(self.faults.fail().into()),
+            answer => answer,
         }
     }
 
