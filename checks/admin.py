@@ -300,7 +300,8 @@ class Idle(Check):
             late = sorted(one for one in took if one > 0.1)
             self.assertLess(sum(late), 3, late)
             self.assertLessEqual(len(late), 1 + count // 100, late)
-            self.ends(slow)
+            # What it sent on behind that end may reset the connection.
+            self.assertIn(slow.end(SOON)[0], ("closed", "reset"))
             for client in waiting:
                 self.answers(client, LAST, closing(HEALTHY))
 
