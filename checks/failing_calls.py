@@ -50,8 +50,9 @@ class Tried:
 
 def outcomes_of(row, failure, run):
     """What a row allows for a run. A read of a connection whose client has ended is missed by nobody; where nothing has come yet, it depends on
-    whether the client still asks something."""
-    if failure.function not in ("recv", "epoll_ctl") or row.place not in (rows.ADMIN, rows.CLIENT):
+    whether the client still asks something. At the admin endpoint each read is bounded by a call of its own before it."""
+    is_bound = failure.function == "setsockopt" and row.place == rows.ADMIN
+    if not is_bound and (failure.function not in ("recv", "epoll_ctl") or row.place not in (rows.ADMIN, rows.CLIENT)):
         return row.outcomes
     return {0: (rows.AS_EVER,), 1: row.outcomes}.get(run.told.has_bytes, row.outcomes + (rows.AS_EVER,))
 
