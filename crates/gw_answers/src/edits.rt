@@ -22,7 +22,7 @@ pub struct ResponseEdits {
 impl Model for ResponseEdits {
     ghost use Rattle.std.specs.Prelude.{List};
     ghost use Rattle.gw_text.specs.model.Filters.{Edits as Plain};
-    ghost use Rattle.gw_answers.specs.Seen.{response_edits_at};
+    ghost use Rattle.gw_answers.specs.model.Messages.{response_edits_at};
 
     ghost Value = { List Plain };
 

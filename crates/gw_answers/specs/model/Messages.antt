@@ -1,12 +1,12 @@
 -- What the filters of a rule and of a backendRef make of the messages to and from a backend. Source: HTTPRouteFilter of the Gateway API
 -- reference, RFC 9110 section 7.6.
-use Rattle.std.specs.Prelude.{ℕ, List, [], ◌∷◌, ◌++◌, codes, Bool, Option, Some, None, Result, Ok, Err, bytes_eq, fold, option_to_list, unwrap_or}
+use Rattle.std.specs.Prelude.{ℕ, List, [], ◌∷◌, ◌++◌, codes, Bool, Option, Some, None, Result, Ok, Err, bytes_eq, fold, option_map, option_to_list, slice_get, unwrap_or}
 use Rattle.std.specs.List.{filter_map}
 use Rattle.gw_filters.specs.model.Editing.{edited}
 use Rattle.gw_filters.specs.model.Locations.{host_of, target_of}
 use Rattle.gw_frames.specs.model.Requests.{Request}
 use Rattle.gw_replies.specs.declared.fault.BackendFault.{BackendFault}
-use Rattle.gw_replies.specs.declared.fault.FaultName.TheVariants.{Backend}
+use Rattle.gw_replies.specs.declared.fault.FaultName.TheVariants as faults
 use Rattle.gw_replies.specs.model.Hops.{passed_back, passed_on}
 use Rattle.gw_replies.specs.model.Responses.{Response}
 use Rattle.gw_replies.specs.model.Written.{forward, own, reply}
@@ -44,6 +44,11 @@ request_edits_of plan b = option_to_list (request_edits_in plan.filters) ++ b.re
 abbrev pub response_edits_of : Plan → Backend → List Edits
 response_edits_of plan b = option_to_list (response_edits_in plan.filters) ++ b.response ∷ []
 
+-- The same by the place of that backendRef in the rule.
+abbrev pub response_edits_at : Plan → ℕ → List Edits
+response_edits_at plan place =
+    option_to_list (response_edits_in plan.filters) ++ option_to_list (option_map (λ b. b.response) (slice_get plan.backends place))
+
 -- The request as the backend that was drawn is sent it: with the target and the host after the rule's rewrite, and with the fields that
 -- are passed on after the edits.
 unfoldable pub forward_of : Plan → Backend → PathMatch → Request → List ℕ
@@ -62,4 +67,4 @@ edited_response edits r = record r { fields = edited_by edits (passed_back r.fie
 -- The reply to a client for what a backend answered, whose responses have these edits. The last one of a connection says so.
 unfoldable pub reply_of : List Edits → Result Response BackendFault → Bool → Bool → List ℕ
 reply_of edits (Ok r) to_head last = reply (edited_response edits r) to_head last
-reply_of edits (Err fault) to_head last = own 502 None (Some (Backend fault)) last
+reply_of edits (Err fault) to_head last = own 502 None (Some (faults.Backend fault)) last
