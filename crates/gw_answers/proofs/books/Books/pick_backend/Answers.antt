@@ -12,7 +12,7 @@ returns-clause-pick c =
     let rule : c.from.result ≡ row.rule = search rules in
     let weights : c.as_slice.result.now ≡ map (λ b. b.weight) row.plan.backends = search rules in
     let all : c.as_slice-backends.result.now ≡ row.plan.backends = search rules in
-    picked_by _ _ _ _ _ (backend_choice row) _ c.item_at.ensures all c.in_ok-picked.ensures.pick (choice_is key rule weights)
+    picked_by _ _ _ _ _ (backend_choice row) _ c.drawn_at.ensures.backend all c.in_ok-picked.ensures.pick (choice_is key rule weights)
 
 pub returns-clause-after : goal.returns-clause-after
 returns-clause-after c =
@@ -22,3 +22,8 @@ returns-clause-after c =
     let weights : c.as_slice.result.now ≡ map (λ b. b.weight) row.plan.backends = search rules in
     ap (λ (book : List (Choice × List ℕ)). record c.args.self.now { backends = book })
     (counted_by _ _ (backend_choice row) c.args.self.now.backends c.in_ok-picked.ensures.after (choice_is key rule weights))
+
+pub returns-clause-place : goal.returns-clause-place
+returns-clause-place c =
+    let all : c.as_slice-backends.result.now ≡ c.args.row.now.plan.backends = search rules in
+    rw all at c.drawn_at.ensures.place
