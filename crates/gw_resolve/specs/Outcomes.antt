@@ -1,8 +1,8 @@
 -- What comes of a line.
-use Rattle.std.specs.Prelude.{◌≡◌, ◌≤◌, ◌⊎◌, ◌+◌, ℕ, ℤ, Result, Ok}
+use Rattle.std.specs.Prelude.{◌≡◌, ◌+◌, ℕ, ℤ, Result, Ok}
 use Rattle.gw_json.specs.declared.refusal.Refusal.{Refusal}
 use Rattle.gw_store.specs.Events.{Read, a_change, is_skipped}
-use Rattle.gw_text.specs.model.Objects.{Change, Event}
+use Rattle.gw_text.specs.model.Objects.{Event}
 use Rattle.gw_text.specs.model.World.{World, apply}
 use Rattle.gw_resolve.specs.Cores.{AreTouchedBy, Core}
 use Rattle.gw_resolve.specs.declared.resolver.Step.{Step}
@@ -19,15 +19,6 @@ IsStep answer at core steps.Skipped = answer ≡ Ok is_skipped
 abbrev pub Adds : ℕ → ℕ → Step → Type 0
 Adds before after (steps.Ready p) = (n : ℕ) × (AreTouchedBy p.core.store.world p.change n × (after ≡ before + n))
 Adds before after steps.Skipped = after ≡ before
-
--- Where memory was wanted: nothing was evaluated, or at most each Route and each Gateway that the change touches, once.
-abbrev pub AddsFewer : World → Change → ℕ → ℕ → Type 0
-AddsFewer w change before after = (after ≡ before) ⊎ ((n : ℕ) × (AreTouchedBy w change n × (after ≤ before + n)))
-
--- The same of a line with this answer, which came at this moment.
-abbrev pub TakesFewer : Result Read Refusal → ℤ → World → ℕ → ℕ → Type 0
-TakesFewer answer at w before after =
-    (after ≡ before) ⊎ ((event : Event) × ((answer ≡ Ok (a_change event)) × AddsFewer w (record { event = event; at = at }) before after))
 
 -- What comes of a line with this answer, at a moment: its change is done, or it is skipped and nothing is.
 abbrev pub Comes : Result Read Refusal → ℤ → Outcome → World → World → Type 0

@@ -1,5 +1,5 @@
 //! The evaluation of the Routes and Gateways that a change touches.
-ghost use Rattle.std.specs.Prelude.{◌≡◌, ◌+◌, ◌<◌, ◌≤◌, false, length, map, All, IfOk, OnOk};
+ghost use Rattle.std.specs.Prelude.{◌≡◌, ◌+◌, ◌<◌, false, length, map, All, IfOk, OnOk};
 ghost use Rattle.std.specs.Arc.{arc_value};
 ghost use Rattle.gw_deps.specs.Edges.{has_key};
 ghost use Rattle.gw_eval.specs.Kept as keeps;
@@ -42,7 +42,6 @@ fn routes_after<L: Ledger>(
     requires { (k : PlainKey) → has_key k touched.now.routes ≡ false → kept_at kept_route_key k former.now.kept ≡ keeps.kept_route_at former.now.controller world.now.world k }
     ensures kept { IfOk result (λ r. r ≡ record former.now { kept = keeps.kept_routes_of former.now.controller world.now.world }) }
     ensures steps { OnOk result (steps.new ≡ steps.old + length touched.now.routes) }
-    ensures most { steps.new ≤ steps.old + length touched.now.routes }
 {
     let mut kept = former.share(alloc)?;
     'keys: for key in touched.routes.as_slice() {
@@ -98,7 +97,6 @@ fn gateways_after<L: Ledger>(
     requires others { (k : PlainKey) → has_key k touched.now.gateways ≡ false → kept_at gateway_status_key k former.now ≡ gateway_status_at doors.now kept.now.controller world.now.world k }
     ensures statuses { IfOk result (λ all. all ≡ statuses.gateway_statuses_of doors.now kept.now.controller world.now.world) }
     ensures steps { OnOk result (steps.new ≡ steps.old + length touched.now.gateways) }
-    ensures most { steps.new ≤ steps.old + length touched.now.gateways }
 {
     let mut all = former.share(alloc)?;
     'keys: for key in touched.gateways.as_slice() {
@@ -130,7 +128,6 @@ pub(crate) fn evaluate<L: Ledger>(
     ensures kept { IfOk result (λ e. AreKept e.kept (arc_value doors.now) (arc_value controller.now) world.now.world) }
     ensures evaluated { IfOk result (λ e. AreOf e.statuses (arc_value e.tables) (arc_value doors.now) (arc_value controller.now) world.now.world) }
     ensures steps { OnOk result (steps.new ≡ steps.old + (length touched.now.routes + length touched.now.gateways)) }
-    ensures most { steps.new ≤ steps.old + (length touched.now.routes + length touched.now.gateways) }
 {
     let routes = routes_after(alloc, world, doors, former, touched, steps)?;
     let kept = doors_after(alloc, world, doors, routes, touched)?;

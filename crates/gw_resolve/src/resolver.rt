@@ -6,7 +6,7 @@ ghost use Rattle.gw_store.specs.SeenEvents.{seen_event};
 ghost use Rattle.gw_text.specs.model.Statuses.{statuses_of};
 ghost use Rattle.gw_text.specs.model.World.{is_full, nothing};
 ghost use Rattle.gw_resolve.specs.Cores.{tables_at, with_rooms, world_with};
-ghost use Rattle.gw_resolve.specs.Outcomes.{Adds, AddsFewer, Comes, IsStep, TakesFewer, TakesSteps};
+ghost use Rattle.gw_resolve.specs.Outcomes.{Adds, Comes, IsStep, TakesSteps};
 ghost use Rattle.gw_resolve.specs.declared.resolver.Step.TheVariants.{Ready};
 
 use crate::evaluation::{Evaluation, evaluate, evaluate_nothing};
@@ -103,7 +103,7 @@ impl Core {
     }
 
     /// Evaluates the change that a line of a watch says, which came at this moment, and leaves the core as it was, with room for the change.
-    /// A step for each Route and each Gateway that the change touches; classes are all evaluated, and not counted.
+    /// A step for each Route and each Gateway that the change touches.
     #[tactic(auto, unfolding(gw_store::specs::Events::answer))]
     pub fn prepare<L: Ledger>(
         &mut self,
@@ -115,7 +115,6 @@ impl Core {
         ensures step { IfOk result (IsStep (answer self.old.store.world line.now) at self.new) }
         ensures refused { IfErr result (λ e. Fails e (answer self.old.store.world line.now)) }
         ensures steps { IfOk result (Adds steps.old steps.new) }
-        ensures fewer { OnErr result (TakesFewer (answer self.old.store.world line.now) at self.old.store.world steps.old steps.new) }
     {
         let Read::Change(event) = read_event(self.alloc, line)? else {
             return Ok(Step::Skipped);
@@ -136,7 +135,6 @@ impl Core {
         ensures same { self.new ≡ with_rooms self.old self.new }
         ensures prepared { IfOk result (λ p. p ≡ record { core = self.new; change = record { event = seen_event event; at = at } }) }
         ensures steps { IfOk result (λ p. Adds steps.old steps.new (Ready p)) }
-        ensures fewer { OnErr result (AddsFewer self.old.store.world (record { event = seen_event event; at = at }) steps.old steps.new) }
     {
         let touched = touched(self.alloc, &self.index, &self.world, &event)?;
         others_stay(
@@ -215,7 +213,6 @@ impl Core {
         ensures doors { self.new.doors ≡ self.old.doors }
         ensures controller { self.new.controller ≡ self.old.controller }
         ensures steps { IfOk result (λ outcome. TakesSteps (answer self.old.store.world line.now) at outcome self.old.store.world steps.old steps.new) }
-        ensures fewer { OnErr result (TakesFewer (answer self.old.store.world line.now) at self.old.store.world steps.old steps.new) }
     {
         match self.prepare(line, at, steps)? {
             Step::Ready(prepared) => {

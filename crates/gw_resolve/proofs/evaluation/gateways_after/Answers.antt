@@ -31,7 +31,6 @@ keys-preserved g c =
     let here : e ≡ get_or keys i e = subst (λ (k : Key). k ≡ get_or keys i k) (sym c.deref-in-keys.ensures) (at ∙ ap (λ ks. get_or ks i c.key-item.result) items) in
     let fresh : c.in_ok-share_status.field-0 ≡ f e = c.in_ok-share_status.ensures ∙ c.in_ok-status.ensures.status ∙ ap f (c.deref.ensures ∙ sym c.deref-in-keys.ensures) in
     let found : (k : Key) → kept_at gateway_status_key k c.in_ok-all-2.all ≡ (if same_key e k then c.in_ok-share_status.field-0 else kept_at gateway_status_key k before) =
-    subst (λ (all : List GatewayStatus). (k : Key) → kept_at gateway_status_key k c.in_ok-all-2.all ≡ (if same_key e k then c.in_ok-share_status.field-0 else kept_at gateway_status_key k all)) c.all.view_is
     c.in_ok-all-2.ensures.found in
     record {
       order = c.in_ok-all-2.ensures.order;

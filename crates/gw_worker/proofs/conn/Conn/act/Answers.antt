@@ -18,5 +18,5 @@ returns-in-Reply-clause-came c = ok_by c.reply_itself.result (λ turn is after p
 pub returns-in-Forward-clause-came : goal.returns-in-Forward-clause-came
 returns-in-Forward-clause-came c = λ p bytes parts q h text s r.
     came_asked c.args.self.now _ p bytes parts text q h c.args.front c.args.decision c.args.head c.args.last c.in-Forward.forward.to c.in-Forward.forward.bytes
-    (record { front = c.args.front; chosen = c.decision.inside.chosen; plan = c.in-Forward.forward.plan; head = c.args.head; last = c.args.last })
+    (record { front = c.args.front; chosen = c.decision.inside.chosen; edits = c.in-Forward.forward.edits; head = c.args.head; last = c.args.last })
     s r (sym c.decision.view_is ∙ ap (λ (a : Action). record { chosen = c.decision.inside.chosen; action = seen_action a }) c.in-Forward.is) refl refl refl refl
