@@ -2,7 +2,6 @@
 use Rattle.std.proofs.Common.{◌≡◌, ◌∙◌, ◌<◌, ◌≤◌, IfSome, List, ap, arith, get_or, length, rules, subst, sym}
 use Rattle.std.specs.Prelude.{if◌then◌else◌}
 use Rattle.gw_text.specs.model.Names.{Key, same_key}
-use Rattle.gw_text.specs.model.Statuses.{GatewayStatus}
 use Rattle.gw_deps.specs.Touching.{Touched}
 use Rattle.gw_eval.specs.Results.{gateway_status_at}
 use Rattle.gw_kept.specs.Held.{gateway_status_key}
