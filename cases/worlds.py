@@ -60,6 +60,7 @@ def selects(selector, labels):
 UNSUPPORTED_EDITS = ["host", "connection", "content-length", "transfer-encoding", "keep-alive", "proxy-connection", "te", "trailer", "upgrade"]
 MODIFIERS = {"RequestHeaderModifier": "requestHeaderModifier", "ResponseHeaderModifier": "responseHeaderModifier"}
 PATHS = {"RequestRedirect": "requestRedirect", "URLRewrite": "urlRewrite"}
+REDIRECTS = [301, 302, 303, 307, 308]
 
 
 def matches_of(rule):
@@ -76,6 +77,15 @@ def paths_of(rule):
     return [path for path in found if path is not None]
 
 
+def is_unsupported_edit(one):
+    """Whether a filter edits a field that isn't to be edited."""
+    if one["type"] not in MODIFIERS:
+        return False
+    edits = one[MODIFIERS[one["type"]]]
+    names = [edit["name"] for edit in edits.get("set", []) + edits.get("add", [])] + edits.get("remove", [])
+    return any(name.lower() in UNSUPPORTED_EDITS for name in names)
+
+
 def unsupported(rule):
     """What isn't supported in a rule."""
     for match in matches_of(rule):
@@ -90,30 +100,44 @@ def unsupported(rule):
     for one in rule.get("filters", []):
         if one["type"] not in [*MODIFIERS, *PATHS]:
             yield "filter"
-        if one["type"] in MODIFIERS:
-            edits = one[MODIFIERS[one["type"]]]
-            names = [edit["name"] for edit in edits.get("set", []) + edits.get("add", [])] + edits.get("remove", [])
-            if any(name.lower() in UNSUPPORTED_EDITS for name in names):
-                yield "edit"
+        if is_unsupported_edit(one):
+            yield "edit"
         if one["type"] == "RequestRedirect":
             if one["requestRedirect"].get("scheme", "http") not in ["http", "https"]:
                 yield "scheme"
-            if one["requestRedirect"].get("statusCode", 302) not in [301, 302]:
+            if one["requestRedirect"].get("statusCode", 302) not in REDIRECTS:
                 yield "statusCode"
     if any(path["type"] not in ["ReplaceFullPath", "ReplacePrefixMatch"] for path in paths_of(rule)):
         yield "modifier"
-    if any(reference.get("filters") for reference in rule.get("backendRefs", [])):
-        yield "filters of a backendRef"
+    for reference in rule.get("backendRefs", []):
+        if any(one["type"] not in MODIFIERS for one in reference.get("filters", [])):
+            yield "filter of a backendRef"
+        if any(is_unsupported_edit(one) for one in reference.get("filters", [])):
+            yield "edit of a backendRef"
     if "timeouts" in rule:
         yield "timeouts"
 
 
+def types_of(thing):
+    """The types of the filters of a rule, or of a backendRef."""
+    return [one["type"] for one in thing.get("filters", [])]
+
+
+def is_repeated(types):
+    return len(set(types)) < len(types)
+
+
 def incompatible(rule):
     """What can't be together in a rule."""
-    types = [one["type"] for one in rule.get("filters", [])]
+    types = types_of(rule)
     matches = matches_of(rule)
-    if any(types.count(one) > 1 for one in types):
+    if is_repeated(types):
         yield "two of one type"
+    for reference in rule.get("backendRefs", []):
+        if is_repeated(types_of(reference)):
+            yield "two of one type on a backendRef"
+        elif set(types) & set(types_of(reference)):
+            show("one type in a rule and on its backendRef")
     if "RequestRedirect" in types and "URLRewrite" in types:
         yield "redirect and rewrite"
     if "RequestRedirect" in types and rule.get("backendRefs"):
@@ -376,6 +400,8 @@ class World:
         if faults:
             show("incompatible", faults[0] if len(set(faults)) == 1 else "several")
             return "IncompatibleFilters", []
+        for one in (one for rule in rules for one in rule.get("filters", []) if one["type"] == "RequestRedirect"):
+            show("attached with a redirect of", one["requestRedirect"].get("statusCode", "no code"))
         return "Accepted", [one["name"] for one in meeting]
 
     def entries(self, route):

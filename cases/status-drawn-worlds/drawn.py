@@ -55,6 +55,9 @@ FILTERS = [[], None, [{"type": "RequestHeaderModifier", "requestHeaderModifier":
            [{"type": "RequestRedirect", "requestRedirect": {"scheme": "ftp"}}],
            [{"type": "RequestRedirect", "requestRedirect": {"statusCode": 301}}],
            [{"type": "RequestRedirect", "requestRedirect": {"statusCode": 303}}],
+           [{"type": "RequestRedirect", "requestRedirect": {"statusCode": 307}}],
+           [{"type": "RequestRedirect", "requestRedirect": {"statusCode": 308}}],
+           [{"type": "RequestRedirect", "requestRedirect": {"statusCode": 304}}],
            [{"type": "RequestRedirect", "requestRedirect": {}}, {"type": "ResponseHeaderModifier", "responseHeaderModifier": {}}],
            [{"type": "RequestRedirect", "requestRedirect": {"path": {"type": "ReplacePrefixMatch", "replacePrefixMatch": "/c"}}}],
            [{"type": "RequestRedirect", "requestRedirect": {}}, {"type": "URLRewrite", "urlRewrite": {}}],
@@ -68,7 +71,12 @@ FILTERS = [[], None, [{"type": "RequestHeaderModifier", "requestHeaderModifier":
            [{"type": "ResponseHeaderModifier", "responseHeaderModifier": {}}, {"type": "URLRewrite", "urlRewrite": {"path": {
                "type": "ReplaceFullPath", "replaceFullPath": ""}}}],
            [{"type": "URLRewrite", "urlRewrite": {"path": {"type": "ReplaceAll"}}}]]
-BACKEND_FILTERS = [None, [], [{"type": "RequestMirror"}]]
+BACKEND_FILTERS = [None, [], [{"type": "RequestHeaderModifier", "requestHeaderModifier": {"set": [{"name": "x", "value": "z"}]}}],
+                   [{"type": "ResponseHeaderModifier", "responseHeaderModifier": {"remove": ["x", "TE"]}}],
+                   [{"type": "RequestHeaderModifier", "requestHeaderModifier": {}}, {"type": "ResponseHeaderModifier", "responseHeaderModifier": {}}],
+                   [{"type": "RequestHeaderModifier", "requestHeaderModifier": {}}, {"type": "RequestHeaderModifier", "requestHeaderModifier": {}}],
+                   [{"type": "ResponseHeaderModifier", "responseHeaderModifier": {"add": [{"name": "x", "value": "z"}]}}],
+                   [{"type": "RequestRedirect", "requestRedirect": {}}], [{"type": "URLRewrite", "urlRewrite": {}}], [{"type": "RequestMirror"}]]
 PORTS = [[{"name": "p", "port": 80, "appProtocol": "http"}, {"name": "u", "port": 81, "protocol": "UDP"}], [{"port": 80}],
          [{"port": 80, "protocol": "TCP", "appProtocol": "kubernetes.io/ws"}], [{"port": 80, "appProtocol": "HTTPS"}, {"port": 81}],
          [{"port": 80, "appProtocol": "https"}], [{"port": 80, "appProtocol": "kubernetes.io/h2c"}, {"port": 81}],
@@ -209,7 +217,7 @@ class Drawing:
         group, kind = self.mostly([(None, None), ("", "Service"), (None, "Service"), (None, "Pod"), ("example.com", "Service")])
         return given(group=group, kind=kind, namespace=None if namespace == own and self.of(2) else namespace,
                      name=self.mostly(["s", "t", "u"]), port=None if group and self.of(2) else self.mostly([80, 81, 82]),
-                     weight=self.pick([None, 0, 1, 2]), filters=self.mostly(BACKEND_FILTERS, 8))
+                     weight=self.pick([None, 0, 1, 2]), filters=self.mostly(BACKEND_FILTERS, 4))
 
     def a_rule(self, own):
         return given(matches=self.mostly(MATCHES, 2), filters=self.mostly(FILTERS, 2), timeouts=None if self.of(40) else {},
@@ -361,11 +369,18 @@ unsupported edit
 unsupported scheme
 unsupported statusCode
 unsupported modifier
-unsupported filters of a backendRef
+unsupported filter of a backendRef
+unsupported edit of a backendRef
 unsupported timeouts
 a full path of several matches
 a full path of Exact
 incompatible two of one type
+incompatible two of one type on a backendRef
+one type in a rule and on its backendRef
+attached with a redirect of 301
+attached with a redirect of 303
+attached with a redirect of 307
+attached with a redirect of 308
 incompatible redirect and rewrite
 incompatible redirect and backendRefs
 incompatible prefix of several matches
