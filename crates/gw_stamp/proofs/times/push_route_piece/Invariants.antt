@@ -1,0 +1,11 @@
+-- The times so far, with those of the rest, are those of all.
+use Rattle.std.proofs.Common.{◌≡◌, ◌++◌, drop}
+use Rattle.std.specs.List.{flat_map}
+use Rattle.gw_stamp.specs.Entries.{stamp_at}
+use Rattle.gw_stamp.specs.Stamping.{times_in}
+use Rattle.gw_stamp.specs.Stated.{route_stated}
+use Rattle.gw_stamp.proofs.times.push_route_piece.Given as goal
+
+abbrev pub invariant-statuses : goal.invariant-statuses
+invariant-statuses l =
+    l.times ++ flat_map (λ s. times_in (stamp_at l.stamps) (route_stated s)) (drop l.status-index l.piece) ≡ l.fn.times ++ flat_map (λ s. times_in (stamp_at l.stamps) (route_stated s)) l.piece
